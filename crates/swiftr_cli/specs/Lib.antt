@@ -1,0 +1,5 @@
+pub mod Words
+pub mod Commands
+pub mod FirstForm
+pub mod Program
+pub mod Points
