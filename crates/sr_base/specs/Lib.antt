@@ -1,0 +1,5 @@
+pub mod Bytes
+pub mod Counts
+pub mod Files
+pub mod Meanings
+pub mod Memory
