@@ -1,2 +1,4 @@
 mod Padding
 mod Literals
+mod JobLaws
+mod Complete

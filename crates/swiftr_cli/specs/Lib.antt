@@ -1,5 +1,9 @@
 pub mod Words
 pub mod Commands
+pub mod Statuses
 pub mod FirstForm
 pub mod Program
 pub mod Points
+pub mod Gives
+pub mod Answers
+pub mod Jobs

@@ -12,9 +12,38 @@ pub struct Point {
     pub reg: u8,
 }
 
+/// The points of the words of `program::exit_words`: the status once it is in x10, and both registers that
+/// the call reads.
+pub const EXIT_POINTS: [Point; 3] = [
+    Point {
+        pc: 0x10004,
+        reg: 10,
+    },
+    Point {
+        pc: 0x10008,
+        reg: 10,
+    },
+    Point {
+        pc: 0x10008,
+        reg: 17,
+    },
+];
+
+/// Appends the line of a point.
 fn push_line(text: &mut String, point: Point) -> Result<(), AllocError>
     ensures { OnOk result (string_bytes text.new ≡ string_bytes text.old ++ point_line point) }
 {
     let Point { pc, reg } = point;
     writeln!(text, "{pc:08x} x{reg}")
+}
+
+/// The text of the list: a line with the number of points, and a line a point.
+pub fn points_text(alloc: Global, points: &[Point]) -> Result<Vec<u8>, AllocError>
+    ensures { IfOk result (λ text. text.items ≡ points_text points.now) }
+{
+    let mut text = format!(in alloc; "points {}\n", points.len())?;
+    for point in points {
+        push_line(&mut text, *point)?;
+    }
+    Ok(text.into_bytes())
 }

@@ -8,5 +8,9 @@ pub fn exit_words(status: u8) -> [u32; 3]
     ensures { result ≡ exit_words status }
 {
     // addi x10,x0,status; addi x17,x0,93; ecall
-    [0x0000_0513 + (u32::from(status) << 20), 0x05d0_0893, 0x0000_0073]
+    [
+        0x0000_0513 + (u32::from(status) << 20),
+        0x05d0_0893,
+        0x0000_0073,
+    ]
 }

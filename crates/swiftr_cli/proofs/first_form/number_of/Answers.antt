@@ -15,8 +15,8 @@ returns-in_default c = λ number h.
     let same_number : c.in-Ok-parse.number ≡ number = cc (is, c.in-Ok-parse.is) in
     let back = to_z-of_z w32 number (nine_digits_fit number h.0) in
     let yes = c.is_written.ensures.1 (rw (same_number, back) h) in
-    rw c.if-is_written.false at yes
-
+    let no = rw c.if-is_written.false at yes in
+    cc (no)
 
 pub returns-in_default-2 : goal.returns-in_default-2
 returns-in_default-2 c = λ number h.

@@ -1,0 +1,24 @@
+# build: proves and builds the command; demo: compiles an example; test: the gate.
+program := crates/swiftr_cli/out/swiftr_cli
+
+.PHONY: build demo test clean
+
+# `rt run` proves all crates below, builds the program and runs it without words, which ends with 1.
+build:
+	@cd crates/swiftr_cli && { rt run -- > /dev/null || [ $$? -eq 1 ]; }
+	@test -x $(program) && touch $(program)
+
+demo: build
+	@mkdir -p build
+	@echo '$$ cat examples/seven.ll'
+	@cat examples/seven.ll
+	@echo '$$ ./swiftr compile examples/seven.ll build/seven.elf'
+	@./swiftr compile examples/seven.ll build/seven.elf
+	@echo '$$ od -A x -t x4 -j 0x1000 -N 12 build/seven.elf'
+	@od -A x -t x4 -j 0x1000 -N 12 build/seven.elf
+
+test:
+	@.ci/run
+
+clean:
+	rm -rf build crates/*/out

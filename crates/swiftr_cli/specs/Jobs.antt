@@ -1,0 +1,81 @@
+-- What is left to do once the files are read and all texts are made.
+use Rattle.std.specs.Prelude.{◌≡◌, ◌⊎◌, ℕ, ◌≤◌, ◌<◌, List, length, Option, Some, None, Vec, Result, MatchResult, IsSome}
+use Rattle.std.specs.Option.{option_map}
+use Rattle.std.specs.declared.alloc.Global.{Global}
+use Rattle.sr_base.specs.Counts.{Rose}
+use Rattle.sr_base.specs.Files.{Files, Holds}
+use Rattle.sr_base.specs.Meanings.{StoreMeaning, SinkMeaning}
+use Rattle.swiftr_cli.specs.Words.{Form}
+use Rattle.swiftr_cli.specs.Statuses.{refused_line}
+use Rattle.swiftr_cli.specs.Gives.{Yield, Gives, GivesExecutable, Refuses, RefusesText, Lacks, output_of, most_text}
+use Rattle.swiftr_cli.specs.declared.status.Status.{Status}
+use Rattle.swiftr_cli.specs.declared.status.Status.TheVariants.{ReadFault, WriteFault, NoMemory, Absent}
+use Rattle.swiftr_cli.specs.declared.job.Output.{Output}
+use Rattle.swiftr_cli.specs.declared.job.Job.{Job}
+use Rattle.swiftr_cli.specs.declared.job.Job.TheVariants.{Whole, Refusal}
+
+-- the name and the bytes of what is to be written
+abbrev pub output_name : Option Output → Option (List ℕ)
+output_name output = option_map (λ o. o.name.now) output
+
+abbrev pub output_bytes : Option Output → Option (List ℕ)
+output_bytes output = option_map (λ o. o.bytes.items) output
+
+-- the job is that of the form: what it gives, or why it is refused
+abbrev pub IsJobOf : Form → Option Files → Job → Type 0
+IsJobOf form files (Whole output text line) =
+    (output_name output ≡ output_of form) × Gives form files (record { image = output_bytes output; text = text.items; line = line.items })
+IsJobOf form files (Refusal line) = (kind : List ℕ) × Refuses form files kind × (line.items ≡ refused_line kind)
+
+-- why a form ends before anything is written or put
+abbrev pub StopsEarly : Form → StoreMeaning → StoreMeaning → Status → Type 0
+StopsEarly form s s' ReadFault = Rose s.read_faults s'.read_faults
+StopsEarly form s s' NoMemory = Unit {0}
+StopsEarly form s s' Absent = Lacks form s.files
+StopsEarly form s s' status = ⊥
+
+-- the store was only read
+pub record IsOnlyRead (s s' : StoreMeaning) : Type 0 where
+  pub files : s'.files ≡ s.files
+  pub write_faults : s'.write_faults ≡ s.write_faults
+  pub write_wants : s'.write_wants ≡ s.write_wants
+
+-- the job was made by reading alone
+pub record IsMade (form : Form) (s s' : StoreMeaning) (made : Result Job Status) : Type 0 where
+  pub read : IsOnlyRead s s'
+  pub job : MatchResult made (IsJobOf form s.files) (StopsEarly form s s')
+
+-- what the reading of a text of bounded length found: the text, or one that is too long
+abbrev pub IsReadAs : Option Files → List ℕ → Option (Vec ℕ Global) → Type 0
+IsReadAs files name None = (content : List ℕ) × Holds files name (Some content) × (most_text < length content)
+IsReadAs files name (Some text) = Holds files name (Some text.items) × (length text.items ≤ most_text)
+
+-- why a text was not read
+abbrev pub StopsReading : StoreMeaning → StoreMeaning → List ℕ → Status → Type 0
+StopsReading s s' name ReadFault = Rose s.read_faults s'.read_faults
+StopsReading s s' name NoMemory = Unit {0}
+StopsReading s s' name Absent = Holds s.files name None
+StopsReading s s' name status = ⊥
+
+-- the status of a write or a put that failed, by the counts of faults and of wants
+abbrev pub FailsBy : ℕ → ℕ → ℕ → ℕ → Status → Type 0
+FailsBy faults faults' wants wants' WriteFault = Rose faults faults'
+FailsBy faults faults' wants wants' NoMemory = Rose wants wants'
+FailsBy faults faults' wants wants' status = ⊥
+
+-- the status of a write of this output and a put of a text of which one failed
+abbrev pub FailsInHandOut : Option (List ℕ) → StoreMeaning → StoreMeaning → SinkMeaning → SinkMeaning → Status → Type 0
+FailsInHandOut name s s' o o' WriteFault = (IsSome name × Rose s.write_faults s'.write_faults) ⊎ Rose o.faults o'.faults
+FailsInHandOut name s s' o o' NoMemory = (s'.files ≡ s.files) ⊎ (Rose s.write_wants s'.write_wants ⊎ Rose o.wants o'.wants)
+FailsInHandOut name s s' o o' status = ⊥
+
+-- the job of a text that was read
+abbrev pub IsBuilt : List ℕ → List ℕ → Job → Type 0
+IsBuilt text output (Whole whole out line) =
+    (output_name whole ≡ Some output) × GivesExecutable text (record { image = output_bytes whole; text = out.items; line = line.items })
+IsBuilt text output (Refusal line) = (kind : List ℕ) × RefusesText text kind × (line.items ≡ refused_line kind)
+
+-- the job tells a refusal of this kind
+abbrev pub IsRefusal : List ℕ → Job → Type 0
+IsRefusal kind (Whole whole out line) = ⊥
+IsRefusal kind (Refusal line) = line.items ≡ refused_line kind
