@@ -9,3 +9,6 @@ mod outside;
 pub use mem_sink::MemSink;
 pub use mem_store::MemStore;
 pub use outside::{Sink, SinkError, Store, StoreError, put_all};
+
+#[cfg(test)]
+mod tests;

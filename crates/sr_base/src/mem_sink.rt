@@ -24,9 +24,7 @@ impl Model for MemSink {
 
     ghost Value = { SinkState };
 
-    ghost view = {
-        λ s. record { most = s.most; failing = s.failing.items; taken = s.taken.items; calls = s.calls; faults = s.faults; wants = s.wants }
-    };
+    ghost view = { λ s. record { most = s.most; failing = s.failing.items; taken = s.taken.items; calls = s.calls; faults = s.faults; wants = s.wants } };
 
     ghost invariant = { λ s. 1 ≤ s.most };
 }
@@ -88,10 +86,8 @@ impl Sink for MemSink {
         // Which puts fail, how much one takes, and what a put leaves.
         ensures listed { IsErrOf result SinkError.Failed ↔ Contains self.old.failing self.old.calls }
         ensures most { IfOk result (λ n. n ≡ min (length piece.now) self.old.most) }
-        ensures counted {
-            self.new
-              ≡ record self.old { taken = self.new.taken; calls = raised self.old.calls; faults = self.new.faults; wants = self.new.wants }
-        }
+        ensures counted { self.new
+            ≡ record self.old { taken = self.new.taken; calls = raised self.old.calls; faults = self.new.faults; wants = self.new.wants } }
         ensures faulted { IsErrOf result SinkError.Failed → self.new.faults ≡ raised self.old.faults }
         ensures unfaulted { result ≢ Err SinkError.Failed → self.new.faults ≡ self.old.faults }
         ensures wanted { IsErrOf result SinkError.OutOfMemory → self.new.wants ≡ raised self.old.wants }

@@ -30,16 +30,14 @@ impl Model for MemStore {
 
     ghost coded = { store_state_code };
 
-    ghost view = {
-        λ s. record {
-          files = files_of s.files;
-          failing = s.failing.items;
-          calls = s.calls;
-          read_faults = s.read_faults;
-          write_faults = s.write_faults;
-          write_wants = s.write_wants;
-        }
-    };
+    ghost view = { λ s. record {
+      files = files_of s.files;
+      failing = s.failing.items;
+      calls = s.calls;
+      read_faults = s.read_faults;
+      write_faults = s.write_faults;
+      write_wants = s.write_wants;
+    } };
 }
 
 impl MemStore {
@@ -49,10 +47,8 @@ impl MemStore {
 
     /// A store with no files, whose calls of these numbers fail.
     pub fn new(failing: Vec<u64>) -> MemStore
-        ensures {
-            result
-              ≡ record { files = empty; failing = failing.items; calls = 0; read_faults = 0; write_faults = 0; write_wants = 0 }
-        }
+        ensures { result
+            ≡ record { files = empty; failing = failing.items; calls = 0; read_faults = 0; write_faults = 0; write_wants = 0 } }
     {
         let alloc = *failing.allocator();
         MemStore {
@@ -124,9 +120,7 @@ impl Store for MemStore {
     ghost use Rattle.sr_base.specs.Counts.{Rose, raised};
     ghost use Rattle.sr_base.specs.Files.{Holds, SameBut, RefusesRead, LeavesPart};
 
-    ghost meaning = {
-        λ s. record { files = Some s.files; read_faults = s.read_faults; write_faults = s.write_faults; write_wants = s.write_wants }
-    };
+    ghost meaning = { λ s. record { files = Some s.files; read_faults = s.read_faults; write_faults = s.write_faults; write_wants = s.write_wants } };
 
     /// Fails at the numbers that the store was made with, and nowhere else.
     fn read(&mut self, alloc: Global, name: &str, max: usize) -> Result<Vec<u8>, StoreError>
@@ -178,15 +172,13 @@ impl Store for MemStore {
 
         // Which calls fail, and what a call leaves.
         ensures listed { IsErrOf result StoreError.Failed ↔ Contains self.old.failing self.old.calls }
-        ensures counted {
-            self.new
-              ≡ record self.old {
-                files = self.new.files;
-                calls = raised self.old.calls;
-                write_faults = self.new.write_faults;
-                write_wants = self.new.write_wants;
-              }
-        }
+        ensures counted { self.new
+            ≡ record self.old {
+              files = self.new.files;
+              calls = raised self.old.calls;
+              write_faults = self.new.write_faults;
+              write_wants = self.new.write_wants;
+            } }
         ensures ok { OnOk result (self.new.files ≡ insert self.old.files name.now bytes.now) }
         ensures err { OnErr result (self.new.files ≡ self.old.files) }
         ensures faulted { IsErrOf result StoreError.Failed → self.new.write_faults ≡ raised self.old.write_faults }
