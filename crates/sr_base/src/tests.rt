@@ -1,6 +1,6 @@
 //! What no clause says: that calls with memory succeed, and that no empty piece is put.
 
-ghost use Rattle.std.specs.Prelude.{None};
+ghost use Rattle.std.specs.Prelude.{◌-◌, ◌^◌, None};
 
 use super::{MemSink, MemStore, Sink, SinkError, Store, StoreError, put_all};
 use std::test::Fail;

@@ -1,4 +1,4 @@
-use Rattle.std.proofs.Common.{◌≡◌, ◌-◌, ◌≤◌, length, take, drop, arith, refl, ap}
+use Rattle.std.proofs.Common.{◌≡◌, ◌-◌, length, take, drop, arith, refl, ap}
 use Rattle.std.proofs.lemmas.Grind.{common_steps}
 use Rattle.sr_base.proofs.Taken.{Takes-take}
 use Rattle.sr_base.proofs.outside.put_all.Goals as goal

@@ -1,8 +1,6 @@
-use Rattle.std.proofs.Common.{◌≡◌, ◌<◌, List, ℕ, Some, Vec, Global, Result, IfOk, arith, refl, ap, ◌∙◌, sym}
+use Rattle.std.proofs.Common.{◌≡◌, Some, arith, refl, ap, ◌∙◌}
 use Rattle.std.proofs.lemmas.Grind.{common_steps}
-use Rattle.std.specs.Option.{option_map}
 use Rattle.std.specs.FinMap.{get}
-use Rattle.sr_base.specs.Files.{Files}
 use Rattle.sr_base.specs.Memory.{files_of}
 use Rattle.sr_base.proofs.Names.{get-files_of}
 use Rattle.sr_base.proofs.mem_store.MemStoreStore.read.Goals as goal

@@ -1,4 +1,4 @@
-use Rattle.std.proofs.Common.{◌≡◌, Some, refl, ap, ◌∙◌}
+use Rattle.std.proofs.Common.{◌≡◌, Some, ap, ◌∙◌}
 use Rattle.sr_base.specs.Memory.{files_of}
 use Rattle.sr_base.proofs.Names.{get-insert_same, get-insert_other}
 use Rattle.sr_base.proofs.mem_store.MemStoreStore.write.Goals as goal
