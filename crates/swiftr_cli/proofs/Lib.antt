@@ -2,3 +2,4 @@ mod Padding
 mod Literals
 mod JobLaws
 mod Complete
+mod PointsText

@@ -1,5 +1,5 @@
 -- The list of the points where a program stays vulnerable, and its text.
-use Rattle.std.specs.Prelude.{ℕ, List, [], ◌∷◌, ◌++◌, ◌-◌, length, replicate, false, codes, decimal}
+use Rattle.std.specs.Prelude.{ℕ, List, [], ◌∷◌, ◌++◌, ◌-◌, ◌<◌, ◌^◌, length, replicate, false, codes, decimal}
 use Rattle.std.specs.List.{flat_map}
 use Rattle.std.specs.Fmt.{digits}
 use Rattle.swiftr_cli.specs.declared.points.Point.{Point}
@@ -21,3 +21,8 @@ points_text points = codes "points " ++ (decimal (length points) ++ (10 ∷ flat
 abbrev pub exit_points : List Point
 exit_points =
     record { pc = 0x10004; reg = 10 } ∷ record { pc = 0x10008; reg = 10 } ∷ record { pc = 0x10008; reg = 17 } ∷ []
+
+-- an address of 64 bits, and a register by number
+pub record IsPoint (point : Point) : Type 0 where
+  pub address : point.pc < 2 ^ 64
+  pub register : point.reg < 32

@@ -1,7 +1,9 @@
 //! The points where a program stays vulnerable.
 
-ghost use Rattle.std.specs.Prelude.{◌≡◌, IfOk, OnOk, ◌++◌, string_bytes};
-ghost use Rattle.swiftr_cli.specs.Points.{points_text, point_line};
+ghost use Rattle.std.specs.Prelude.{◌≡◌, ◌<◌, ◌^◌, IfOk, OnOk, ◌++◌, List, length, string_bytes};
+ghost use Rattle.std.specs.List.{AllByRecursion};
+ghost use Rattle.swiftr_cli.specs.Points.{points_text, point_line, IsPoint};
+ghost use Rattle.swiftr_cli.specs.declared.points.Point.{Point};
 
 use std::alloc::{AllocError, Global};
 
@@ -46,4 +48,10 @@ pub fn points_text(alloc: Global, points: &[Point]) -> Result<Vec<u8>, AllocErro
         push_line(&mut text, *point)?;
     }
     Ok(text.into_bytes())
+}
+
+/// The text of a list determines the list.
+pub fn text_determines_points()
+    ensures { (ps qs : List Point) → AllByRecursion IsPoint ps → AllByRecursion IsPoint qs → length ps < 2 ^ 64 → length qs < 2 ^ 64 → points_text ps ≡ points_text qs → ps ≡ qs }
+{
 }
