@@ -1,0 +1,6 @@
+pub mod Table
+pub mod Forms
+pub mod Format
+pub mod Word
+pub mod Registers
+pub mod Opcodes
