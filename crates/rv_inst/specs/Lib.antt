@@ -4,3 +4,4 @@ pub mod Format
 pub mod Word
 pub mod Registers
 pub mod Opcodes
+pub mod Window
