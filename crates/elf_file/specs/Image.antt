@@ -1,5 +1,5 @@
 -- What an executable puts into memory: where the program starts, and the segments.
-use Rattle.std.specs.Prelude.{◌≡◌, ◌≤◌, ℕ, ◌+◌, ◌^◌, ◌%◌, min, max, Bool, true, false, ◌==◌, ◌&&◌, ◌||◌, nat_lt, if◌then◌else◌, List, [], ◌∷◌, length, filter, sum_by, All, Option, Some, None}
+use Rattle.std.specs.Prelude.{◌≡◌, ◌≤◌, ℕ, ◌+◌, ◌^◌, ◌%◌, min, max, Bool, true, false, ◌==◌, ◌&&◌, ◌||◌, nat_lt, if◌then◌else◌, List, [], ◌∷◌, length, filter, sum_by, Option, Some, None}
 use Rattle.std.specs.List.{list_any}
 use Rattle.std.specs.Option.{option_map}
 use Rattle.byteorder.specs.Endian.{little_number}
@@ -17,7 +17,7 @@ pub record ProgramImage : Type 0 where
   pub begin : ℕ
   pub segments : List ImageSegment
 
--- a segment ends at 2 ^ 64 at the latest, and holds its first bytes
+-- the segment ends at 2 ^ 64 at the latest, and its first bytes are within it
 pub record IsSegment (s : ImageSegment) : Type 0 where
   pub ends : s.base + s.size ≤ 2 ^ 64
   pub holds : length s.init ≤ s.size
@@ -45,7 +45,6 @@ most_memory = 536870912
 
 -- no two segments share an address, and they take no more memory than is allowed
 pub record IsImage (image : ProgramImage) : Type 0 where
-  pub segments : All IsSegment image.segments
   pub apart : any_shared image.segments ≡ false
   pub size : memory_size image.segments ≤ most_memory
 
