@@ -3,3 +3,4 @@ pub mod Memory
 pub mod Step
 pub mod Run
 pub mod Text
+pub mod Start
