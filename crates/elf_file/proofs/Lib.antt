@@ -1,2 +1,6 @@
 pub mod Appends
+pub mod Covers
+pub mod Headers
+pub mod Images
+pub mod Tables
 pub mod Written

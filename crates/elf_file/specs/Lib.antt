@@ -1,1 +1,4 @@
+pub mod Extents
+pub mod Image
 pub mod Layout
+pub mod Reading

@@ -1,0 +1,4 @@
+pub mod RegisterLemmas
+pub mod ByteLemmas
+pub mod TextLemmas
+pub mod RunLemmas
