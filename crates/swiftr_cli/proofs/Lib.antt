@@ -3,3 +3,4 @@ mod Literals
 mod JobLaws
 mod Complete
 mod PointsText
+mod ExitWords

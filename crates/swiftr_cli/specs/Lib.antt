@@ -4,6 +4,7 @@ pub mod Statuses
 pub mod FirstForm
 pub mod Program
 pub mod Points
+pub mod ExitProgram
 pub mod Gives
 pub mod Answers
 pub mod Jobs
