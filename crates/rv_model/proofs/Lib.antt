@@ -3,3 +3,4 @@ pub mod ByteLemmas
 pub mod TextLemmas
 pub mod RunLemmas
 pub mod StartLemmas
+pub mod ActLemmas
