@@ -4,3 +4,4 @@ mod JobLaws
 mod Complete
 mod PointsText
 mod ExitWords
+mod Delivered

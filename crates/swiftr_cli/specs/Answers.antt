@@ -1,5 +1,5 @@
 -- What the command has done with the store and the sinks, by the form of its words and its status.
-use Rattle.std.specs.Prelude.{◌≡◌, ◌⊎◌, ℕ, List, [], codes, Option, Some, None}
+use Rattle.std.specs.Prelude.{◌≡◌, ◌⊎◌, ◌<◌, ℕ, List, [], codes, Option, Some, None}
 use Rattle.sr_base.specs.Counts.{Rose}
 use Rattle.sr_base.specs.Bytes.{Takes, TakesPrefix}
 use Rattle.sr_base.specs.Files.{Files, Holds, SameBut}
@@ -55,6 +55,21 @@ LeavesFilesOf form status s s' o o' = s'.files ≡ s.files
 abbrev pub LeavesFiles : Option Form → Status → StoreMeaning → StoreMeaning → SinkMeaning → SinkMeaning → Type 0
 LeavesFiles None status s s' o o' = s' ≡ s
 LeavesFiles (Some form) status s s' o o' = LeavesFilesOf form status s s' o o'
+
+-- the output holds what the form gives, and `out` has taken a prefix of the text that goes with it
+abbrev pub Delivers : Form → StoreMeaning → StoreMeaning → SinkMeaning → SinkMeaning → Type 0
+Delivers form s s' o o' =
+    (given : Yield) × Gives form s.files given × IsWritten (output_of form) s'.files given.image × TakesPrefix o.taken o'.taken given.text
+
+-- so it is too where only `out` failed, or wanted memory
+abbrev pub DeliversOf : Form → Status → StoreMeaning → StoreMeaning → SinkMeaning → SinkMeaning → Type 0
+DeliversOf form WriteFault s s' o o' = (Rose s.write_faults s'.write_faults → ⊥) → Delivers form s s' o o'
+DeliversOf form NoMemory s s' o o' = o.wants < o'.wants → Delivers form s s' o o'
+DeliversOf form status s s' o o' = Unit {0}
+
+abbrev pub DeliversStill : Option Form → Status → StoreMeaning → StoreMeaning → SinkMeaning → SinkMeaning → Type 0
+DeliversStill None status s s' o o' = Unit {0}
+DeliversStill (Some form) status s s' o o' = DeliversOf form status s s' o o'
 
 -- what `out` has taken: nothing, or a prefix of the text that the form gives
 abbrev pub PutsOutOf : Form → Status → StoreMeaning → SinkMeaning → SinkMeaning → Type 0

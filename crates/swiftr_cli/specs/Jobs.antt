@@ -3,10 +3,12 @@ use Rattle.std.specs.Prelude.{◌≡◌, ◌⊎◌, ℕ, ◌≤◌, ◌<◌, Lis
 use Rattle.std.specs.Option.{option_map}
 use Rattle.std.specs.declared.alloc.Global.{Global}
 use Rattle.sr_base.specs.Counts.{Rose}
+use Rattle.sr_base.specs.Bytes.{TakesPrefix}
 use Rattle.sr_base.specs.Files.{Files, Holds}
 use Rattle.sr_base.specs.Meanings.{StoreMeaning, SinkMeaning}
 use Rattle.swiftr_cli.specs.Words.{Form}
 use Rattle.swiftr_cli.specs.Statuses.{refused_line}
+use Rattle.swiftr_cli.specs.Answers.{IsWritten}
 use Rattle.swiftr_cli.specs.Gives.{Yield, Gives, GivesExecutable, Refuses, RefusesText, Lacks, output_of, most_text}
 use Rattle.swiftr_cli.specs.declared.status.Status.{Status}
 use Rattle.swiftr_cli.specs.declared.status.Status.TheVariants.{ReadFault, WriteFault, NoMemory, Absent}
@@ -63,11 +65,17 @@ FailsBy faults faults' wants wants' WriteFault = Rose faults faults'
 FailsBy faults faults' wants wants' NoMemory = Rose wants wants'
 FailsBy faults faults' wants wants' status = ⊥
 
--- the status of a write of this output and a put of a text of which one failed
-abbrev pub FailsInHandOut : Option (List ℕ) → StoreMeaning → StoreMeaning → SinkMeaning → SinkMeaning → Status → Type 0
-FailsInHandOut name s s' o o' WriteFault = (IsSome name × Rose s.write_faults s'.write_faults) ⊎ Rose o.faults o'.faults
-FailsInHandOut name s s' o o' NoMemory = (s'.files ≡ s.files) ⊎ (Rose s.write_wants s'.write_wants ⊎ Rose o.wants o'.wants)
-FailsInHandOut name s s' o o' status = ⊥
+-- a put of a text failed after the output was written
+abbrev pub FailsInPut : Option Output → List ℕ → StoreMeaning → SinkMeaning → SinkMeaning → Type 0
+FailsInPut output text s' o o' = IsWritten (output_name output) s'.files (output_bytes output) × TakesPrefix o.taken o'.taken text
+
+-- the status of a write of this output and a put of a text, of which one failed
+abbrev pub FailsInHandOut : Option Output → List ℕ → StoreMeaning → StoreMeaning → SinkMeaning → SinkMeaning → Status → Type 0
+FailsInHandOut output text s s' o o' WriteFault =
+    (IsSome (output_name output) × Rose s.write_faults s'.write_faults) ⊎ (FailsInPut output text s' o o' × Rose o.faults o'.faults)
+FailsInHandOut output text s s' o o' NoMemory =
+    ((o' ≡ o) × Rose s.write_wants s'.write_wants) ⊎ (FailsInPut output text s' o o' × Rose o.wants o'.wants)
+FailsInHandOut output text s s' o o' status = ⊥
 
 -- the job of a text that was read
 abbrev pub IsBuilt : List ℕ → List ℕ → Job → Type 0

@@ -4,7 +4,7 @@ ghost use Rattle.std.specs.Prelude.{◌≡◌, ◌⊎◌, [], IsOk, IsSome, OnOk
 ghost use Rattle.sr_base.specs.Bytes.{Takes, TakesPrefix};
 ghost use Rattle.sr_base.specs.Meanings.{StoreMeaning, SinkMeaning};
 ghost use Rattle.swiftr_cli.specs.Words.{Form};
-ghost use Rattle.swiftr_cli.specs.Answers.{Tells, IsWritten, KeepsOthers, IsCausedBy, LeavesFilesOf, PutsOutOf, NotesOf};
+ghost use Rattle.swiftr_cli.specs.Answers.{Tells, IsWritten, KeepsOthers, IsCausedBy, LeavesFilesOf, PutsOutOf, DeliversOf, NotesOf};
 ghost use Rattle.swiftr_cli.specs.Jobs.{output_name, output_bytes, FailsBy, FailsInHandOut, IsMade};
 
 use crate::status::Status;
@@ -81,7 +81,7 @@ fn hand_out<S: Store, O: Sink>(
     out: &mut O,
 ) -> Result<(), Status>
     ensures ok { OnOk result (IsWritten (output_name output.now) (S.meaning store.new).files (output_bytes output.now) × Takes (O.meaning out.old).taken (O.meaning out.new).taken text.now) }
-    ensures err { IfErr result (FailsInHandOut (output_name output.now) (S.meaning store.old) (S.meaning store.new) (O.meaning out.old) (O.meaning out.new)) }
+    ensures err { IfErr result (FailsInHandOut output.now text.now (S.meaning store.old) (S.meaning store.new) (O.meaning out.old) (O.meaning out.new)) }
     ensures files { KeepsOthers (output_name output.now) (S.meaning store.old).files (S.meaning store.new).files }
     ensures prefix { (out.new ≡ out.old) ⊎ TakesPrefix (O.meaning out.old).taken (O.meaning out.new).taken text.now }
 {
@@ -100,6 +100,7 @@ pub fn finish<S: Store, O: Sink, N: Sink>(
     ensures cause { (form : Form) (s : StoreMeaning) → IsMade form s (S.meaning store.old) made.entry → IsCausedBy form result s (S.meaning store.new) (O.meaning out.old) (O.meaning out.new) (N.meaning note.old) (N.meaning note.new) }
     ensures files { (form : Form) (s : StoreMeaning) → IsMade form s (S.meaning store.old) made.entry → LeavesFilesOf form result s (S.meaning store.new) (O.meaning out.old) (O.meaning out.new) }
     ensures out { (form : Form) (s : StoreMeaning) → IsMade form s (S.meaning store.old) made.entry → PutsOutOf form result s (O.meaning out.old) (O.meaning out.new) }
+    ensures delivers { (form : Form) (s : StoreMeaning) → IsMade form s (S.meaning store.old) made.entry → DeliversOf form result s (S.meaning store.new) (O.meaning out.old) (O.meaning out.new) }
     ensures note { (form : Form) (s : StoreMeaning) → IsMade form s (S.meaning store.old) made.entry → NotesOf form result s (N.meaning note.old) (N.meaning note.new) }
 {
     match made {

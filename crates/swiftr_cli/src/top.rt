@@ -5,7 +5,7 @@ ghost use Rattle.sr_base.specs.Counts.{Rose};
 ghost use Rattle.swiftr_cli.specs.Words.{form_of, compile as compile_form};
 ghost use Rattle.swiftr_cli.specs.Commands.{meant};
 ghost use Rattle.swiftr_cli.specs.Statuses.{status_of};
-ghost use Rattle.swiftr_cli.specs.Answers.{IsCaused, LeavesFiles, PutsOut, Notes, IsComplete, IsCausedBy, LeavesFilesOf, PutsOutOf, NotesOf};
+ghost use Rattle.swiftr_cli.specs.Answers.{IsCaused, LeavesFiles, PutsOut, Notes, IsComplete, DeliversStill, IsCausedBy, LeavesFilesOf, PutsOutOf, DeliversOf, NotesOf};
 
 use crate::compile::compile;
 use crate::job::{finish, tell};
@@ -27,6 +27,7 @@ fn run_compile<S: Store, O: Sink, N: Sink>(
     ensures files { LeavesFilesOf (compile_form input.now output.now) result (S.meaning store.old) (S.meaning store.new) (O.meaning out.old) (O.meaning out.new) }
     ensures out { PutsOutOf (compile_form input.now output.now) result (S.meaning store.old) (O.meaning out.old) (O.meaning out.new) }
     ensures complete { IsComplete (Some (compile_form input.now output.now)) result (S.meaning store.old) (S.meaning store.new) (O.meaning out.old) (O.meaning out.new) (N.meaning note.old) (N.meaning note.new) }
+    ensures delivers { DeliversOf (compile_form input.now output.now) result (S.meaning store.old) (S.meaning store.new) (O.meaning out.old) (O.meaning out.new) }
     ensures note { NotesOf (compile_form input.now output.now) result (S.meaning store.old) (N.meaning note.old) (N.meaning note.new) }
 {
     let made = compile(alloc, input, output, store);
@@ -44,6 +45,7 @@ fn run_command<S: Store, O: Sink, N: Sink>(
     ensures cause { IsCausedBy (meant command.entry) result (S.meaning store.old) (S.meaning store.new) (O.meaning out.old) (O.meaning out.new) (N.meaning note.old) (N.meaning note.new) }
     ensures files { LeavesFilesOf (meant command.entry) result (S.meaning store.old) (S.meaning store.new) (O.meaning out.old) (O.meaning out.new) }
     ensures out { PutsOutOf (meant command.entry) result (S.meaning store.old) (O.meaning out.old) (O.meaning out.new) }
+    ensures delivers { DeliversOf (meant command.entry) result (S.meaning store.old) (S.meaning store.new) (O.meaning out.old) (O.meaning out.new) }
     ensures note { NotesOf (meant command.entry) result (S.meaning store.old) (N.meaning note.old) (N.meaning note.new) }
     ensures complete { IsComplete (Some (meant command.entry)) result (S.meaning store.old) (S.meaning store.new) (O.meaning out.old) (O.meaning out.new) (N.meaning note.old) (N.meaning note.new) }
 {
@@ -63,6 +65,7 @@ fn run<S: Store, O: Sink, N: Sink>(
     ensures cause { IsCaused (form_of (map string_bytes words.now)) result (S.meaning store.old) (S.meaning store.new) (O.meaning out.old) (O.meaning out.new) (N.meaning note.old) (N.meaning note.new) }
     ensures files { LeavesFiles (form_of (map string_bytes words.now)) result (S.meaning store.old) (S.meaning store.new) (O.meaning out.old) (O.meaning out.new) }
     ensures out { PutsOut (form_of (map string_bytes words.now)) result (S.meaning store.old) (O.meaning out.old) (O.meaning out.new) }
+    ensures delivers { DeliversStill (form_of (map string_bytes words.now)) result (S.meaning store.old) (S.meaning store.new) (O.meaning out.old) (O.meaning out.new) }
     ensures note { Notes (form_of (map string_bytes words.now)) result (S.meaning store.old) (N.meaning note.old) (N.meaning note.new) }
     ensures complete { IsComplete (form_of (map string_bytes words.now)) result (S.meaning store.old) (S.meaning store.new) (O.meaning out.old) (O.meaning out.new) (N.meaning note.old) (N.meaning note.new) }
 {
@@ -104,6 +107,7 @@ pub fn swiftr<S: Store, O: Sink, N: Sink>(
     // What becomes of the files, of `out` and of `note`.
     ensures files { LeavesFiles (form_of (map string_bytes words.now)) (status_of result) (S.meaning store.old) (S.meaning store.new) (O.meaning out.old) (O.meaning out.new) }
     ensures out { PutsOut (form_of (map string_bytes words.now)) (status_of result) (S.meaning store.old) (O.meaning out.old) (O.meaning out.new) }
+    ensures delivers { DeliversStill (form_of (map string_bytes words.now)) (status_of result) (S.meaning store.old) (S.meaning store.new) (O.meaning out.old) (O.meaning out.new) }
     ensures note { Notes (form_of (map string_bytes words.now)) (status_of result) (S.meaning store.old) (N.meaning note.old) (N.meaning note.new) }
 
     // Words of a form, files that are there and accepted, and no fault: all is done, or memory is wanting.
