@@ -1,4 +1,5 @@
 pub mod Appends
+pub mod Backward
 pub mod Covers
 pub mod Headers
 pub mod Images

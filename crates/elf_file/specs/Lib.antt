@@ -1,4 +1,5 @@
 pub mod Extents
 pub mod Image
 pub mod Layout
+pub mod ReadBack
 pub mod Reading

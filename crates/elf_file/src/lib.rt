@@ -12,3 +12,15 @@ pub use error::ElfError;
 pub use reader::read;
 pub use segments::{Bytes, Image, Segment, Segments};
 pub use writer::write;
+
+ghost use Rattle.elf_file.specs.ReadBack.{ReadsBack, TextReadsBack};
+
+/// The law that what [`write`] gives reads back, whatever the words and the data.
+///
+/// The image starts at 0x10000, where the text lies with flags 5, and has the data at 0x10000000 with
+/// flags 6: `init` and then `extra` zeros. The words of its text segment are those written.
+pub fn written_reads_back()
+    ensures image { ReadsBack }
+    ensures text { TextReadsBack }
+{
+}
