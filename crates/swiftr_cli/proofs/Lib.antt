@@ -5,3 +5,4 @@ mod Complete
 mod PointsText
 mod ExitWords
 mod Delivered
+mod ExitSurvives

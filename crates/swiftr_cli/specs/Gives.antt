@@ -1,11 +1,11 @@
 -- What each form of words gives, by the files that the store tells, and why it gives nothing.
 use Rattle.std.specs.Prelude.{◌≡◌, ◌⊎◌, ◌<◌, ◌≤◌, ℕ, ℤ, List, [], length, codes, Option, Some, None}
 use Rattle.sr_base.specs.Files.{Files, held, Holds}
-use Rattle.elf_file.specs.Layout.{file_bytes}
 use Rattle.swiftr_cli.specs.Words.{Form, compile}
 use Rattle.swiftr_cli.specs.FirstForm.{Returns, exit_status}
-use Rattle.swiftr_cli.specs.Program.{exit_words}
-use Rattle.swiftr_cli.specs.Points.{points_text, exit_points}
+use Rattle.swiftr_cli.specs.Points.{points_text}
+use Rattle.swiftr_cli.specs.Hardened.{IsHardened}
+use Rattle.swiftr_cli.specs.declared.points.Point.{Point}
 
 -- what a command gives where nothing fails: an executable, what is put on `out`, and the line on `note`
 pub record Yield : Type 0 where
@@ -17,18 +17,15 @@ pub record Yield : Type 0 where
 abbrev pub most_text : ℕ
 most_text = 4194304
 
--- the executable that ends with a status
-abbrev pub executable : ℕ → List ℕ
-executable status = file_bytes (exit_words status) [] 0
-
 -- the text is within its limit, and returns the number
 abbrev pub IsAccepted : List ℕ → ℤ → Type 0
 IsAccepted text number = (length text ≤ most_text) × Returns text number
 
--- what compiling a text gives
+-- what compiling a text gives: an executable that ends with the number's status and survives every flip outside the points whose
+-- text is put
 abbrev pub GivesExecutable : List ℕ → Yield → Type 0
-GivesExecutable text given = (number : ℤ) × IsAccepted text number
-    × (given ≡ record { image = Some (executable (exit_status number)); text = points_text exit_points; line = [] })
+GivesExecutable text given = (number : ℤ) × (bytes : List ℕ) × (points : List Point) × IsAccepted text number × IsHardened bytes points (exit_status number)
+    × (given ≡ record { image = Some bytes; text = points_text points; line = [] })
 
 -- what a form gives
 abbrev pub Gives : Form → Option Files → Yield → Type 0

@@ -5,6 +5,7 @@ pub mod FirstForm
 pub mod Program
 pub mod Points
 pub mod ExitProgram
+pub mod Hardened
 pub mod Gives
 pub mod Answers
 pub mod Jobs

@@ -3,7 +3,8 @@
 ghost use Rattle.std.specs.Prelude.{◌≡◌, ◌≤◌, length, IfOk, IfErr, MatchResult};
 ghost use Rattle.sr_base.specs.Meanings.{StoreMeaning};
 ghost use Rattle.swiftr_cli.specs.Words.{Form, compile as compile_form};
-ghost use Rattle.swiftr_cli.specs.Gives.{executable, most_text};
+ghost use Rattle.swiftr_cli.specs.Program.{executable};
+ghost use Rattle.swiftr_cli.specs.Gives.{most_text};
 ghost use Rattle.swiftr_cli.specs.Jobs.{IsJobOf, StopsEarly, IsOnlyRead, IsReadAs, StopsReading, IsBuilt, IsRefusal};
 
 use crate::first_form::{exit_status, returned_number};

@@ -1,5 +1,12 @@
-use Rattle.swiftr_cli.proofs.JobLaws.{not_built}
+use Rattle.std.proofs.Common.{refl}
+use Rattle.swiftr_cli.proofs.JobLaws.{not_built, gives_executable, returned_kept}
 use Rattle.swiftr_cli.proofs.compile.build.Goals as goal
 
 pub returns-in_default-clause-ok : goal.returns-in_default-clause-ok
 returns-in_default-clause-ok c = not_built c.refusal.result c.args.text.now c.args.output.now c.requires c.in_default.ensures.none c.refusal.ensures.ok
+
+pub returns-clause-ok : goal.returns-clause-ok
+returns-clause-ok c =
+    let returns = c.in-Some.ensures.found in
+    let bytes = rw (c.exit_status.ensures, returned_kept c.args.text.now c.in-Some.number returns) at c.in_ok-bytes.ensures in
+    (refl, gives_executable c.args.text.now c.in-Some.number c.in_ok-bytes.bytes.items c.in_ok-text.text.items c.new-line.result.items c.requires returns bytes c.in_ok-text.ensures c.new-line.ensures.items)
