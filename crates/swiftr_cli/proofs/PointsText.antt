@@ -67,6 +67,7 @@ same_point p q e f = first ∙ second
   where
     first : p ≡ record { pc = q.pc; reg = p.reg }
     first = ap (λ (n : ℕ). record p { pc = n }) e
+
     second : (record { pc = q.pc; reg = p.reg }) ≡ q
     second = ap (λ (n : ℕ). record q { reg = n }) f
 
@@ -77,10 +78,10 @@ lines_determine [] (q ∷ qs) f g e = absurd (not_empty _ _ _ (e ∙ line_is q (
 lines_determine (p ∷ ps) [] f g e = absurd (not_empty _ _ _ (sym e ∙ line_is p (flat_map point_line ps)))
 lines_determine (p ∷ ps) (q ∷ qs) f g e =
     let first = cut_at 32 (address p.pc) (address q.pc) (120 ∷ (decimal p.reg ++ 10 ∷ flat_map point_line ps)) (120 ∷ (decimal q.reg ++ 10 ∷ flat_map point_line qs))
-            (address_lacks p.pc f.0.address) (address_lacks q.pc g.0.address) (sym (line_is p (flat_map point_line ps)) ∙ e ∙ line_is q (flat_map point_line qs)) in
+    (address_lacks p.pc f.0.address) (address_lacks q.pc g.0.address) (sym (line_is p (flat_map point_line ps)) ∙ e ∙ line_is q (flat_map point_line qs)) in
     let behind : decimal p.reg ++ 10 ∷ flat_map point_line ps ≡ decimal q.reg ++ 10 ∷ flat_map point_line qs = cc (first.1) in
     let second = cut_at 10 (decimal p.reg) (decimal q.reg) (flat_map point_line ps) (flat_map point_line qs)
-            (decimal_lacks p.reg (omega (arith, f.0.register))) (decimal_lacks q.reg (omega (arith, g.0.register))) behind in
+    (decimal_lacks p.reg (omega (arith, f.0.register))) (decimal_lacks q.reg (omega (arith, g.0.register))) behind in
     let pcs : p.pc ≡ q.pc = sym (address_value p.pc f.0.address) ∙ ap (digits_value 16) first.0 ∙ address_value q.pc g.0.address in
     let regs : p.reg ≡ q.reg = decimal_injective p.reg q.reg (omega (arith, f.0.register)) (omega (arith, g.0.register)) second.0 in
     ap (λ (zs : List Point). p ∷ zs) (lines_determine ps qs f.1 g.1 second.1) ∙ ap (λ (r : Point). r ∷ qs) (same_point p q pcs regs)

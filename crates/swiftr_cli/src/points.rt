@@ -53,5 +53,4 @@ pub fn points_text(alloc: Global, points: &[Point]) -> Result<Vec<u8>, AllocErro
 /// The text of a list determines the list.
 pub fn text_determines_points()
     ensures { (ps qs : List Point) → AllByRecursion IsPoint ps → AllByRecursion IsPoint qs → length ps < 2 ^ 64 → length qs < 2 ^ 64 → points_text ps ≡ points_text qs → ps ≡ qs }
-{
-}
+{}

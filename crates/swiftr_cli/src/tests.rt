@@ -69,10 +69,10 @@ fn is_executable(file: &[u8], first: &[u8]) -> bool {
         return false;
     }
     let is_zero = |byte: &u8| *byte == 0;
-    &file[..176] == HEADERS
+    file.starts_with(HEADERS)
         && file[176..4096].iter().all(is_zero)
-        && &file[4096..4100] == first
-        && &file[4100..4108] == b"\x93\x08\xd0\x05\x73\x00\x00\x00".as_slice()
+        && file[4096..].starts_with(first)
+        && file[4100..].starts_with(b"\x93\x08\xd0\x05\x73\x00\x00\x00")
         && file[4108..].iter().all(is_zero)
 }
 
