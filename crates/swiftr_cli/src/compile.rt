@@ -9,7 +9,7 @@ ghost use Rattle.swiftr_cli.specs.Jobs.{IsJobOf, StopsEarly, IsOnlyRead, IsReadA
 
 use crate::first_form::{exit_status, returned_number};
 use crate::job::{Job, Output};
-use crate::points::{EXIT_POINTS, points_text};
+use crate::points::{exit_points, points_text};
 use crate::program::exit_words;
 use crate::status::Status;
 use sr_base::{Store, StoreError};
@@ -65,7 +65,7 @@ fn build<'a>(alloc: Global, text: &[u8], output: &'a str) -> Result<Job<'a>, Sta
         name: output,
         bytes,
     });
-    let text = points_text(alloc, &EXIT_POINTS)?;
+    let text = points_text(alloc, &exit_points())?;
     let line = Vec::new(alloc);
     Ok(Job::Whole { output, text, line })
 }

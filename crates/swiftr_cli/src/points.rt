@@ -2,7 +2,7 @@
 
 ghost use Rattle.std.specs.Prelude.{◌≡◌, ◌<◌, ◌^◌, IfOk, OnOk, ◌++◌, List, length, string_bytes};
 ghost use Rattle.std.specs.List.{AllByRecursion};
-ghost use Rattle.swiftr_cli.specs.Points.{points_text, point_line, IsPoint};
+ghost use Rattle.swiftr_cli.specs.Points.{points_text, point_line, exit_points, IsPoint};
 ghost use Rattle.swiftr_cli.specs.declared.points.Point.{Point};
 
 use std::alloc::{AllocError, Global};
@@ -16,20 +16,23 @@ pub struct Point {
 
 /// The points of the words of `program::exit_words`: the status once it is in x10, and both registers that
 /// the call reads.
-pub const EXIT_POINTS: [Point; 3] = [
-    Point {
+pub fn exit_points() -> [Point; 3]
+    ensures { result ≡ exit_points }
+{
+    let made = Point {
         pc: 0x10004,
         reg: 10,
-    },
-    Point {
+    };
+    let status = Point {
         pc: 0x10008,
         reg: 10,
-    },
-    Point {
+    };
+    let number = Point {
         pc: 0x10008,
         reg: 17,
-    },
-];
+    };
+    [made, status, number]
+}
 
 /// Appends the line of a point.
 fn push_line(text: &mut String, point: Point) -> Result<(), AllocError>
