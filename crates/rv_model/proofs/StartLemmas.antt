@@ -1,10 +1,10 @@
 -- The start of an executable with a text and data.
-use Rattle.std.proofs.Common.{◌≡◌, ℕ, zero, suc, ◌+◌, ◌-◌, ◌*◌, ◌<◌, List, [], ◌∷◌, ◌++◌, length, refl, sym, ◌∙◌, ap, subst, arith, append-nil, slice_index}
+use Rattle.std.proofs.Common.{◌≡◌, ℕ, zero, suc, ◌+◌, ◌-◌, ◌*◌, List, [], ◌∷◌, ◌++◌, length, refl, ◌∙◌, ap, arith, append-nil, slice_index}
 use Rattle.std.specs.Prelude.{replicate}
-use Rattle.elf_file.specs.Image.{ImageSegment, ProgramImage}
-use Rattle.rv_model.specs.State.{LoadedSegment, MachineState, register}
+use Rattle.elf_file.specs.Image.{ProgramImage}
+use Rattle.rv_model.specs.State.{register}
 use Rattle.rv_model.specs.Text.{text_base, data_base, bytes_of_words, layout}
-use Rattle.rv_model.specs.Start.{loaded_segment, started}
+use Rattle.rv_model.specs.Start.{started}
 use Rattle.rv_model.proofs.TextLemmas.{length-bytes_of_words}
 
 -- the image with these words and data, at the places that an executable has for them

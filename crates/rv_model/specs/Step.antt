@@ -1,5 +1,5 @@
 -- One instruction (RISC-V Unprivileged ISA, RV64I and M; of the environment's calls the one that ends the program).
-use Rattle.std.specs.Prelude.{ℕ, suc, ℤ, ◌+◌, ◌-◌, ◌*◌, ◌%◌, ◌^◌, ◌==◌, nat_lt, List, Option, Some, None, if◌then◌else◌}
+use Rattle.std.specs.Prelude.{ℕ, ℤ, ◌+◌, ◌-◌, ◌*◌, ◌%◌, ◌^◌, ◌==◌, nat_lt, List, Option, Some, None, if◌then◌else◌}
 use Rattle.byteorder.specs.Endian.{little_number}
 use Rattle.rv_inst.specs.declared.instruction.Form.{Form}
 use Rattle.rv_inst.specs.declared.instruction.Form.TheVariants.{LUI, ADDI, ECALL}
@@ -7,7 +7,7 @@ use Rattle.rv_inst.specs.Format.{bits_of, unsigned}
 use Rattle.rv_inst.specs.Word.{form_at}
 use Rattle.rv_model.specs.declared.Cause.{Cause}
 use Rattle.rv_model.specs.declared.Cause.TheVariants.{Fetch, Illegal, Load, Store, Call}
-use Rattle.rv_model.specs.State.{LoadedSegment, MachineState, register, set_register, plus64, jump, next}
+use Rattle.rv_model.specs.State.{LoadedSegment, MachineState, register, set_register, plus64, next}
 use Rattle.rv_model.specs.Memory.{word_at}
 
 -- what an instruction does: the machine goes on in a new state, the program ends with a status, or it traps at a pc, and nothing is changed
