@@ -1,7 +1,7 @@
 -- Which registers are taken to be right in every case, and so must be listed.
-use Rattle.std.proofs.Common.{◌≡◌, ◌≢◌, ℕ, ◌<◌, ◌==◌, ◌⊎◌, inl, inr, Bool, true, false, List, [], ◌∷◌, refl, sym, ◌∙◌, ap, subst, arith}
+use Rattle.std.proofs.Common.{◌≡◌, ◌≢◌, ℕ, ◌<◌, ◌==◌, ◌⊎◌, inl, inr, Bool, true, false, List, [], ◌∷◌, refl, sym, ◌∙◌, subst, arith}
 use Rattle.std.proofs.lemmas.Bool.Decides.{nat_tests}
-use Rattle.rv_flips.specs.Cells.{Cell, Free, Has, Sure}
+use Rattle.rv_flips.specs.Cells.{Cell, Has, Sure}
 use Rattle.rv_flips.specs.Points.{Point, with_register}
 use Rattle.rv_flips.specs.Moves.{Covered}
 use Rattle.rv_flips.proofs.CellLemmas.{with_register-same, with_register-other}
@@ -54,6 +54,7 @@ sures_without regs d cell rs not_sure sures r w is nonzero = by_place (r == d) r
     others : IsOneOf r (d ∷ rs) → r ≢ d → IsOneOf r rs
     others (inl e) ne = absurd (ne e)
     others (inr k) ne = k
+
     by_place : (b : Bool) → (r == d) ≡ b → IsOneOf r rs
     by_place true e =
         let same : r ≡ d = grind (arith, nat_tests) in

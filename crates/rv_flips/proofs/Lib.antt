@@ -6,3 +6,4 @@ pub mod KnownRegisters
 pub mod StartLaws
 pub mod Windows
 pub mod EndingLaws
+pub mod SlotLemmas

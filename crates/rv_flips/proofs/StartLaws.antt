@@ -1,18 +1,17 @@
 -- From the start of an executable to its survival.
-use Rattle.std.proofs.Common.{◌≡◌, ◌≢◌, ℕ, zero, suc, ◌+◌, ◌-◌, ◌<◌, ◌≤◌, ◌^◌, Bool, true, false, List, [], ◌∷◌, ◌++◌, length, Option, Some, None, refl, sym, ◌∙◌, ap, subst, arith}
+use Rattle.std.proofs.Common.{◌≡◌, ℕ, zero, suc, ◌+◌, ◌-◌, ◌≤◌, List, [], ◌++◌, length, Option, Some, None, refl, ◌∙◌, ap, arith}
 use Rattle.std.specs.Prelude.{replicate}
-use Rattle.std.proofs.lemmas.Bool.Decides.{nat_tests}
 use Rattle.rv_model.specs.declared.Flip.{Flip}
 use Rattle.rv_model.specs.State.{MachineState, register}
-use Rattle.rv_model.specs.Run.{HasEnded, FlipFits, IsOutside, run}
-use Rattle.rv_model.specs.Text.{text_base, layout}
+use Rattle.rv_model.specs.Run.{run}
+use Rattle.rv_model.specs.Text.{text_base}
 use Rattle.rv_model.specs.Start.{started, program_image}
 use Rattle.rv_model.proofs.StartLemmas.{segments-started, register-started, count-started, pc-started, input-started, out-started}
-use Rattle.rv_flips.specs.Cells.{Case, Right, Cell, Free, Has, Sure, Holds}
+use Rattle.rv_flips.specs.Cells.{Right, Cell, Free, Has, Sure, Holds}
 use Rattle.rv_flips.specs.Points.{Point, Sat}
-use Rattle.rv_flips.specs.Moves.{IsPending, Pending, Good, EndsWithin, Finishes}
+use Rattle.rv_flips.specs.Moves.{EndsWithin, Finishes}
 use Rattle.rv_flips.specs.Survives.{IsListed, Ends, Survives}
-use Rattle.rv_flips.proofs.KnownRegisters.{IsOneOf, Sures}
+use Rattle.rv_flips.proofs.KnownRegisters.{Sures}
 
 -- x0 is 0
 unfoldable pub first_cells : ℕ → Cell

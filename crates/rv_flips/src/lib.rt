@@ -15,14 +15,9 @@ ghost use Rattle.rv_flips.specs.Survives.{IsListed, Survives};
 /// is flipped before any instruction at a point outside a list of three; and each of these is a window
 /// point of the text.
 pub fn ending_survives()
-    ensures survives {
-        (words init input : List ℕ) (extra : ℕ) (n : ℤ) → WordsOf words (ending_words n) →
-            Survives (program_image words init extra) ending_points input [] (bits64 n % 256)
-                (2 * (length words + 1))
-    }
-    ensures listed {
-        (words : List ℕ) (n : ℤ) (p r : ℕ) → WordsOf words (ending_words n) →
-            IsListed ending_points p r → IsWindowPoint words text_base p r
-    }
-{
-}
+    ensures survives { (words init input : List ℕ) (extra : ℕ) (n : ℤ) → WordsOf words (ending_words n) →
+        Survives (program_image words init extra) ending_points input [] (bits64 n % 256)
+        (2 * (length words + 1)) }
+    ensures listed { (words : List ℕ) (n : ℤ) (p r : ℕ) → WordsOf words (ending_words n) →
+        IsListed ending_points p r → IsWindowPoint words text_base p r }
+{}
