@@ -1,7 +1,7 @@
 -- Cells in the cases.
-use Rattle.std.proofs.Common.{◌≡◌, ◌≢◌, ℕ, ◌+◌, ◌-◌, ◌%◌, ◌<◌, ◌≤◌, ◌^◌, ◌==◌, Bool, true, false, cond, List, [], ◌∷◌, length, refl, sym, ◌∙◌, ap, subst, arith}
+use Rattle.std.proofs.Common.{◌≡◌, ◌≢◌, ℕ, ◌+◌, ◌-◌, ◌%◌, ◌<◌, ◌^◌, ◌==◌, true, false, cond, List, [], ◌∷◌, refl, ap, arith}
 use Rattle.std.proofs.lemmas.Bool.Decides.{nat_tests}
-use Rattle.rv_flips.specs.Cells.{Case, Right, First, Second, Third, Plains, Codes, Tag, Sure, One, Two, Three, Plain, Code, Damage, Intact, Lost, By, damage, Cell, Free, Has, HoldsBy, Holds, error_at, strike, struck_case, with_error, error_of}
+use Rattle.rv_flips.specs.Cells.{Case, Right, Codes, Tag, Sure, One, Two, Three, Plain, Code, Cell, Free, Has, Holds, strike, struck_case, with_error}
 use Rattle.rv_flips.specs.Points.{Slot, SlotsHold, slot_key, number_at, with_register}
 
 pub same_test : (k : ℕ) → (k == k) ≡ true

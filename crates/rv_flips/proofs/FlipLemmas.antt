@@ -1,19 +1,17 @@
 -- The one lemma on flips: a flip of a register that is not taken to be right in every case leaves a state at its point, in the case that
 -- the register's cell gives.
-use Rattle.std.proofs.Common.{◌≡◌, ◌≢◌, ℕ, zero, suc, ◌+◌, ◌-◌, ◌%◌, ◌<◌, ◌≤◌, ◌^◌, ◌==◌, Bool, true, false, cond, List, length, Option, Some, None, IfSome, refl, sym, ◌∙◌, ap, subst, arith, bit_xor}
+use Rattle.std.proofs.Common.{◌≡◌, ◌≢◌, ℕ, zero, suc, ◌+◌, ◌-◌, ◌%◌, ◌<◌, ◌^◌, ◌==◌, Bool, true, false, cond, List, length, Option, Some, None, IfSome, refl, ◌∙◌, ap, subst, arith, bit_xor}
 use Rattle.std.proofs.lemmas.Bool.Decides.{nat_tests}
 use Rattle.std.proofs.lemmas.Nat.{xor_lt}
 use Rattle.std.proofs.Math.Pow.{pow-lt}
 use Rattle.rv_model.specs.declared.Flip.{Flip}
-use Rattle.rv_model.specs.State.{MachineState, register, set_register}
-use Rattle.rv_model.specs.Step.{StepResult, Continues, step}
-use Rattle.rv_model.specs.Run.{FlipFits, IsOutside, flipped, struck, later, after, run, pc_at}
-use Rattle.rv_model.specs.Text.{layout}
+use Rattle.rv_model.specs.State.{MachineState, register}
+use Rattle.rv_model.specs.Run.{FlipFits, IsOutside, flipped, struck, later, pc_at}
 use Rattle.rv_model.proofs.RegisterLemmas.{register-set_same, register-set_other, length-set_register, bound-set_register, pc-set_register, segments-set_register, input-set_register, out-set_register}
 use Rattle.rv_model.proofs.RunLemmas.{run-suc, pc_at-zero, pc_at-suc}
-use Rattle.rv_flips.specs.Cells.{Case, Right, Cell, Free, Has, Sure, Holds, strike, struck_case}
+use Rattle.rv_flips.specs.Cells.{Case, Right, Cell, Free, Has, Sure, Holds, struck_case}
 use Rattle.rv_flips.specs.Points.{Point, Sat, SlotsHold}
-use Rattle.rv_flips.specs.Moves.{IsPending, Pending, Good, Covered, Ready}
+use Rattle.rv_flips.specs.Moves.{Good, Covered, Ready}
 use Rattle.rv_flips.proofs.CellLemmas.{strike_other, strike_own, slots_struck}
 
 -- two to a bit's number is below 2^64
@@ -54,7 +52,7 @@ flip_sat words c s r b sat nonzero small bit safe =
     }
   where
     each : (q : ℕ) (t : Bool) → (q == r) ≡ t → bit_xor (register s r) (2 ^ b) < 2 ^ 64 → r < length s.regs →
-      Holds q (c.regs q) (struck_case (c.regs r) r (change_of (register s r) b)) (register (flipped r b s) q)
+        Holds q (c.regs q) (struck_case (c.regs r) r (change_of (register s r) b)) (register (flipped r b s) q)
     each q true e wide there =
         let same : r ≡ q = grind (arith, nat_tests) in
         let P : ℕ → Type 0 = λ k. Holds k (c.regs k) (struck_case (c.regs r) r (change_of (register s r) b)) (register (flipped r b s) k) in
@@ -94,9 +92,9 @@ strikes_later words listed c s f sat fits outside n more =
       sat = sat;
       goes = λ k. run-suc k s (Some f) ∙ rw (as_is, kept, sat.out) refl;
       pending = λ t e.
-        let there : pc_at f.at s ≡ pc_at (f.at - 1) t = ap (λ m. pc_at m s) more ∙ pc_at-suc n s t e ∙ ap (λ m. pc_at m t) (omega arith) in
-        let P : Option ℕ → Type 0 = λ o. IfSome o (λ p. listed p f.reg → ⊥) in
-        record { right = refl; fits = fits; outside = subst P there outside };
+          let there : pc_at f.at s ≡ pc_at (f.at - 1) t = ap (λ m. pc_at m s) more ∙ pc_at-suc n s t e ∙ ap (λ m. pc_at m t) (omega arith) in
+          let P : Option ℕ → Type 0 = λ o. IfSome o (λ p. listed p f.reg → ⊥) in
+          record { right = refl; fits = fits; outside = subst P there outside };
     }
 
 -- at a point where the list has each register that it must, the flip strikes or is still to come

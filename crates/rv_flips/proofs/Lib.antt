@@ -2,3 +2,8 @@ pub mod CellLemmas
 pub mod FlipLemmas
 pub mod MoveLemmas
 pub mod WordLaws
+pub mod KnownRegisters
+pub mod StartLaws
+pub mod Windows
+pub mod EndingLaws
+pub mod SlotLemmas

@@ -1,13 +1,13 @@
 -- Laws on moves: one word, one stretch after another, and the end.
-use Rattle.std.proofs.Common.{◌≡◌, ◌≢◌, ℕ, zero, suc, ◌+◌, ◌<◌, ◌≤◌, List, length, Option, Some, None, refl, sym, ◌∙◌, ap, subst, arith, add_assoc}
+use Rattle.std.proofs.Common.{◌≡◌, ℕ, suc, ◌+◌, ◌≤◌, List, Option, Some, None, refl, sym, ◌∙◌, ap, arith, add_assoc}
 use Rattle.rv_model.specs.declared.Flip.{Flip}
 use Rattle.rv_model.specs.State.{MachineState}
-use Rattle.rv_model.specs.Step.{StepResult, Continues, Ends, step}
-use Rattle.rv_model.specs.Run.{RunResult, HasEnded, more, after, run}
+use Rattle.rv_model.specs.Step.{StepResult, Ends, step}
+use Rattle.rv_model.specs.Run.{more, after, run}
 use Rattle.rv_model.proofs.RunLemmas.{more-more, more-zero}
-use Rattle.rv_flips.specs.Cells.{Case, Right, Cell, Has, Sure}
+use Rattle.rv_flips.specs.Cells.{Case, Right}
 use Rattle.rv_flips.specs.Points.{Point, Sat}
-use Rattle.rv_flips.specs.Moves.{IsPending, Pending, Good, Covered, Ready, Arrives, Moves, Does, EndsWithin, Finishes}
+use Rattle.rv_flips.specs.Moves.{Pending, Covered, Ready, Arrives, Moves, Does, EndsWithin, Finishes}
 use Rattle.rv_flips.proofs.FlipLemmas.{ready}
 
 -- a flip still to come is so in another right case
@@ -32,8 +32,8 @@ one_word words listed c d covered word s f good =
       few = omega arith;
       good = record { case = w.case; sat = w.sat; pending = pending_kept listed r.case w.case w.state r.rest w.keeps (r.pending w.state w.goes) };
       goes = λ k.
-        let first : 1 + k ≡ suc k = omega arith in
-        ap (λ n. run n s f) first ∙ r.goes k ∙ ap (λ (x : StepResult). after x c.out (λ t. run k t r.rest)) w.goes;
+          let first : 1 + k ≡ suc k = omega arith in
+          ap (λ n. run n s f) first ∙ r.goes k ∙ ap (λ (x : StepResult). after x c.out (λ t. run k t r.rest)) w.goes;
     }
 
 -- one stretch after another
@@ -49,7 +49,7 @@ moves_then words listed c d e m n one two s f good =
       few = few;
       good = b.good;
       goes = λ k.
-        ap (λ n. run n s f) (add_assoc a.steps b.steps k) ∙ a.goes (b.steps + k) ∙ ap (more a.steps) (b.goes k) ∙ more-more a.steps b.steps (run k b.state b.flip);
+          ap (λ n. run n s f) (add_assoc a.steps b.steps k) ∙ a.goes (b.steps + k) ∙ ap (more a.steps) (b.goes k) ∙ more-more a.steps b.steps (run k b.state b.flip);
     }
 
 pub moves_none : (words : List ℕ) (listed : ℕ → ℕ → Type 0) (c : Point) → Moves words listed c 0 c
@@ -92,8 +92,8 @@ last_word words listed c status covered word s f good =
       steps = 1;
       few = omega arith;
       ends = λ k.
-        let first : 1 + k ≡ suc k = omega arith in
-        ap (λ n. run n s f) first ∙ r.goes k ∙ ap (λ (x : StepResult). after x c.out (λ t. run k t r.rest)) e;
+          let first : 1 + k ≡ suc k = omega arith in
+          ap (λ n. run n s f) first ∙ r.goes k ∙ ap (λ (x : StepResult). after x c.out (λ t. run k t r.rest)) e;
     }
 
 -- a stretch, and then the end

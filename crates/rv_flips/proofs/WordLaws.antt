@@ -1,12 +1,12 @@
 -- What words do at a point, in every case.
-use Rattle.std.proofs.Common.{◌≡◌, ◌≢◌, ℕ, zero, suc, ◌+◌, ◌%◌, ◌<◌, ◌≤◌, ◌^◌, ◌==◌, ◌⊎◌, inl, inr, Bool, true, false, cond, List, [], ◌∷◌, length, refl, sym, ◌∙◌, ap, subst, arith}
+use Rattle.std.proofs.Common.{◌≡◌, ◌≢◌, ℕ, ◌%◌, ◌<◌, ◌^◌, ◌==◌, Bool, true, false, List, length, refl, ◌∙◌, ap, subst, arith}
 use Rattle.std.specs.Prelude.{ℤ, pos}
 use Rattle.std.proofs.lemmas.Bool.Decides.{nat_tests}
 use Rattle.rv_inst.specs.declared.instruction.Form.{Form}
 use Rattle.rv_inst.specs.declared.instruction.Form.TheVariants.{LUI, ADDI, ECALL}
 use Rattle.rv_inst.specs.Word.{Fits}
 use Rattle.rv_model.specs.State.{MachineState, register, set_register, plus64, next}
-use Rattle.rv_model.specs.Step.{StepResult, Continues, Ends, bits64, upper_value, put, act, step}
+use Rattle.rv_model.specs.Step.{Ends, bits64, upper_value, put, act, step}
 use Rattle.rv_model.specs.Text.{Stands}
 use Rattle.rv_model.proofs.RegisterLemmas.{register-set_same, register-set_other, length-set_register, bound-set_register, pc-set_register, segments-set_register, input-set_register, out-set_register}
 use Rattle.rv_model.proofs.TextLemmas.{step-stands}
@@ -128,3 +128,31 @@ exit_finishes words listed c n number status stands covered = last_word words li
         let x17 : register s 17 ≡ 93 = holds_sure 17 93 (register s 17) i (subst P number (sat.regs 17)) in
         let x10 : register s 10 ≡ n = holds_sure 10 n (register s 10) i (subst Q status (sat.regs 10)) in
         step_here words c i s ECALL sat stands ∙ act-ECALL s ∙ called-ends s n x17 x10
+
+-- another cell of a register that its value meets too
+pub cell_sat : (words : List ℕ) (c : Point) (r : ℕ) (cell : Cell) (i : Case) (s : MachineState) → Sat words c i s → Holds r cell i (register s r) → Sat words (record c { regs = with_register c.regs r cell }) i s
+cell_sat words c r cell i s sat holds =
+    record {
+      place = sat.place;
+      pc = sat.pc;
+      regs = λ q. each q (q == r) refl;
+      wide = sat.wide;
+      count = sat.count;
+      segments = sat.segments;
+      size = sat.size;
+      slots = sat.slots;
+      regions = sat.regions;
+      input = sat.input;
+      out = sat.out;
+    }
+  where
+    each : (q : ℕ) (b : Bool) → (q == r) ≡ b → Holds q (with_register c.regs r cell q) i (register s q)
+    each q true e =
+        let is : r ≡ q = grind (arith, nat_tests) in
+        let P : ℕ → Type 0 = λ k. Holds k (with_register c.regs r cell k) i (register s k) in
+        subst P is (rw (with_register-same c.regs r cell) holds)
+    each q false e = let other : q ≢ r = grind (arith, nat_tests) in rw (with_register-other c.regs r q cell other) (sat.regs q)
+
+-- what is known of a register is forgotten
+pub free_sat : (words : List ℕ) (c : Point) (r : ℕ) (i : Case) (s : MachineState) → Sat words c i s → Sat words (record c { regs = with_register c.regs r Free }) i s
+free_sat words c r i s sat = cell_sat words c r Free i s sat tt

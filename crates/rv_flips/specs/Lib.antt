@@ -2,3 +2,4 @@ pub mod Cells
 pub mod Points
 pub mod Moves
 pub mod Survives
+pub mod Ending

@@ -3,8 +3,8 @@ use Rattle.std.specs.Prelude.{◌≡◌, ℕ, suc, ◌+◌, ◌≤◌, ◌<◌, 
 use Rattle.rv_model.specs.declared.Flip.{Flip}
 use Rattle.rv_model.specs.State.{MachineState}
 use Rattle.rv_model.specs.Step.{Continues, step}
-use Rattle.rv_model.specs.Run.{RunResult, HasEnded, FlipFits, IsOutside, more, after, run}
-use Rattle.rv_flips.specs.Cells.{Case, Right, Cell, Has, Sure}
+use Rattle.rv_model.specs.Run.{HasEnded, FlipFits, IsOutside, more, after, run}
+use Rattle.rv_flips.specs.Cells.{Case, Right, Has, Sure}
 use Rattle.rv_flips.specs.Points.{Point, Sat}
 
 -- a flip that is still to come: all is right so far, and it falls outside the list

@@ -1,5 +1,5 @@
 -- Facts on all kinds: the table and the look-up compute at each.
-use Rattle.std.proofs.Common.{◌≡◌, ℕ, ◌<◌, ◌^◌, List, Option, Some, refl, arith}
+use Rattle.std.proofs.Common.{◌≡◌, Some, refl, arith}
 use Rattle.rv_inst.specs.declared.table.Kind.{Kind}
 use Rattle.rv_inst.specs.declared.table.Kind.TheVariants.{OpLui}
 use Rattle.rv_inst.specs.declared.table.Operands.{Operands}

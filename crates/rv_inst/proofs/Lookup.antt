@@ -1,12 +1,12 @@
 -- The look-up by opcode finds the first row that the fields match.
-use Rattle.std.proofs.Common.{◌≡◌, ℕ, ◌==◌, List, [], ◌∷◌, Bool, true, false, Option, Some, None, IfSome, refl, sym, ◌∙◌, ap, subst, cond, ◌&&◌, arith}
+use Rattle.std.proofs.Common.{◌≡◌, ℕ, ◌==◌, List, [], ◌∷◌, Bool, true, false, Option, Some, None, refl, sym, ◌∙◌, subst, cond, ◌&&◌, arith}
 use Rattle.std.specs.Prelude.{find}
 use Rattle.std.proofs.lemmas.Bool.Decides.{nat_tests}
 use Rattle.rv_inst.specs.declared.table.Kind.{Kind}
 use Rattle.rv_inst.specs.declared.table.Kind.TheVariants.{OpJalr, OpEcall}
 use Rattle.rv_inst.specs.declared.table.Fields.{Fields}
 use Rattle.rv_inst.specs.Table.{row, kinds}
-use Rattle.rv_inst.specs.Format.{tests, fields_of, operands_in, IsCut}
+use Rattle.rv_inst.specs.Format.{tests, operands_in, IsCut}
 use Rattle.rv_inst.specs.Word.{kind_at}
 use Rattle.rv_inst.specs.Opcodes.{chosen, branches, loads, stores, left_shifts, right_shifts, immediates, plain, negated, multiplying, left_word_shifts, right_word_shifts, word_immediates, plain_words, negated_words, multiplying_words, by_sign, by_zero, by_bit25, by_opcode, system, kind_by_opcode}
 use Rattle.rv_inst.proofs.EachKind.{kind_at-fields_of, kind_by_opcode-fields_of}

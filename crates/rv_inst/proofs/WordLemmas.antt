@@ -1,15 +1,14 @@
 -- The word of an instruction and the instruction of a word are each other's.
-use Rattle.std.proofs.Common.{◌≡◌, ℕ, ◌<◌, ◌^◌, ◌↔◌, Option, Some, None, refl, sym, ◌∙◌, ap, subst, arith}
+use Rattle.std.proofs.Common.{◌≡◌, ℕ, ◌<◌, ◌^◌, ◌↔◌, Option, Some, None, refl, sym, ◌∙◌, ap, subst}
 use Rattle.rv_inst.specs.declared.table.Kind.{Kind}
 use Rattle.rv_inst.specs.declared.table.Fields.{Fields}
-use Rattle.rv_inst.specs.declared.table.Operands.{Operands}
 use Rattle.rv_inst.specs.declared.table.Format.{Format}
 use Rattle.rv_inst.specs.declared.table.Format.TheVariants.{Upper}
 use Rattle.rv_inst.specs.declared.instruction.Form.{Form}
 use Rattle.rv_inst.specs.Table.{row}
 use Rattle.rv_inst.specs.Forms.{kind_of, operands_of, form_of}
-use Rattle.rv_inst.specs.Format.{IsCut, number, fields_at, fields_of, operands_in, tests}
-use Rattle.rv_inst.specs.Word.{FitsFormat, Fits, Word, kind_at, form_in, form_at}
+use Rattle.rv_inst.specs.Format.{IsCut, number, fields_at, fields_of, operands_in}
+use Rattle.rv_inst.specs.Word.{Fits, Word, kind_at, form_in, form_at}
 use Rattle.rv_inst.proofs.EachKind.{trim, kind_of-form_of, operands_of-form_of, form_of-trim, form_of-kind_of, row_fits, kind_at-fields_of}
 use Rattle.rv_inst.proofs.EachFormat.{number-fields_at, cut-fields_at, number_fits, fields_at-number, operands_in-fields_of, fits-operands_in, cut-fields_of, fields_of-operands_in}
 use Rattle.rv_inst.proofs.Lookup.{kind_at_matches, kind_by_opcode_is}

@@ -1,6 +1,5 @@
 -- The table of RV64I and the M extension (RISC-V Unprivileged ISA, "RV32/64G Instruction Set Listings"): one row per instruction.
 use Rattle.std.specs.Prelude.{List, [], ◌∷◌}
-use Rattle.rv_inst.specs.declared.table.Format.{Format}
 use Rattle.rv_inst.specs.declared.table.Format.TheVariants.{Upper, Jump, Immediate, Branch, Store, Register, Shift, ShiftWord, System}
 use Rattle.rv_inst.specs.declared.table.Row.{Row}
 use Rattle.rv_inst.specs.declared.table.Kind.{Kind}

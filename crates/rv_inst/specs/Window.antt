@@ -2,7 +2,7 @@
 -- uses it. A flip of that register there can't be seen by any check. Only the words are looked at, and nothing of values.
 use Rattle.std.specs.Prelude.{◌≡◌, ℕ, ◌+◌, ◌*◌, ◌%◌, ◌^◌, ◌≤◌, ℤ, pos, negsuc, Bool, true, false, IsTrue, not, ◌==◌, nat_lt, ◌&&◌, ◌||◌, ◌⊎◌, List, [], ◌∷◌, ◌++◌, length, Option, Some, None, slice_get, All, Any}
 use Rattle.rv_inst.specs.declared.instruction.Form.{Form}
-use Rattle.rv_inst.specs.declared.instruction.Form.TheVariants.{LUI, JAL, JALR, BEQ, BNE, ADDI, ECALL}
+use Rattle.rv_inst.specs.declared.instruction.Form.TheVariants.{LUI, JAL, BEQ, BNE, ADDI, ECALL}
 use Rattle.rv_inst.specs.Table.{row}
 use Rattle.rv_inst.specs.Forms.{kind_of}
 use Rattle.rv_inst.specs.Format.{bits_of}

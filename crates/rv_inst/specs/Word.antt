@@ -1,5 +1,5 @@
 -- The word of an instruction.
-use Rattle.std.specs.Prelude.{◌≡◌, ℕ, ℤ, pos, negsuc, ◌%◌, ◌^◌, ◌<◌, List, Option, Some, None, find}
+use Rattle.std.specs.Prelude.{◌≡◌, ℕ, ℤ, pos, negsuc, ◌%◌, ◌^◌, ◌<◌, Option, Some, None, find}
 use Rattle.rv_inst.specs.declared.table.Kind.{Kind}
 use Rattle.rv_inst.specs.declared.table.Format.{Format}
 use Rattle.rv_inst.specs.declared.table.Format.TheVariants.{Upper, Jump, Immediate, Branch, Store, Register, Shift, ShiftWord, System}

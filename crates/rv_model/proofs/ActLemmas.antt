@@ -1,12 +1,10 @@
 -- What each instruction does, as one equation.
-use Rattle.std.proofs.Common.{◌≡◌, ℕ, ◌+◌, ◌-◌, ◌*◌, ◌%◌, ◌<◌, ◌≤◌, ◌^◌, ◌==◌, Bool, true, false, cond, refl, sym, ◌∙◌, ap, arith}
+use Rattle.std.proofs.Common.{◌≡◌, ℕ, ◌+◌, ◌-◌, ◌*◌, ◌%◌, ◌<◌, ◌≤◌, ◌^◌, Bool, true, false, cond, refl, arith}
 use Rattle.std.specs.Prelude.{ℤ, pos, negsuc, nat_lt}
-use Rattle.std.proofs.lemmas.Bool.Decides.{nat_tests}
 use Rattle.rv_inst.specs.declared.instruction.Form.TheVariants.{LUI, ADDI, ECALL}
-use Rattle.rv_inst.specs.Format.{bits_of, unsigned}
 use Rattle.rv_inst.specs.Word.{IsBelow, IsSigned}
 use Rattle.rv_model.specs.State.{MachineState, register, plus64}
-use Rattle.rv_model.specs.Step.{StepResult, Ends, bits64, sign_extended, upper_value, put, called, act}
+use Rattle.rv_model.specs.Step.{Ends, bits64, sign_extended, upper_value, put, called, act}
 
 pub act-LUI : (rd : ℕ) (imm : ℤ) (s : MachineState) → act (LUI rd imm) s ≡ put rd (upper_value imm) s
 unfolding act

@@ -1,10 +1,10 @@
 -- Registers that are set, and those that stay.
-use Rattle.std.proofs.Common.{◌≡◌, ◌≢◌, ℕ, zero, suc, ◌<◌, ◌≤◌, ◌^◌, ◌==◌, Bool, true, false, cond, length, List, slice_index, slice_set, get_or, refl, sym, ◌∙◌, ap, subst, arith, rules, get_or-set_same, get_or-set_other}
+use Rattle.std.proofs.Common.{◌≡◌, ◌≢◌, ℕ, ◌<◌, ◌≤◌, ◌==◌, Bool, true, false, cond, length, List, slice_index, slice_set, refl, sym, subst, arith, get_or-set_same, get_or-set_other}
 use Rattle.std.proofs.Math.ListN.{length-set, set}
 use Rattle.std.specs.Prelude.{nat_lt}
 use Rattle.std.proofs.lemmas.List.{get_or_past}
 use Rattle.std.proofs.lemmas.Bool.Decides.{nat_tests}
-use Rattle.rv_model.specs.State.{MachineState, register, set_register, jump, next, plus64}
+use Rattle.rv_model.specs.State.{MachineState, register, set_register}
 
 -- a register that is set, other than x0, holds the value
 pub register-set_same : (s : MachineState) (r v : ℕ) → 0 < r → r < length s.regs → register (set_register s r v) r ≡ v

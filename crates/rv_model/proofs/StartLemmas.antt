@@ -1,19 +1,11 @@
 -- The start of an executable with a text and data.
-use Rattle.std.proofs.Common.{◌≡◌, ℕ, zero, suc, ◌+◌, ◌-◌, ◌*◌, ◌<◌, List, [], ◌∷◌, ◌++◌, length, refl, sym, ◌∙◌, ap, subst, arith, append-nil, slice_index}
+use Rattle.std.proofs.Common.{◌≡◌, ℕ, zero, suc, ◌+◌, ◌-◌, ◌*◌, List, [], ◌∷◌, ◌++◌, length, refl, ◌∙◌, ap, arith, append-nil, slice_index}
 use Rattle.std.specs.Prelude.{replicate}
-use Rattle.elf_file.specs.Image.{ImageSegment, ProgramImage}
-use Rattle.rv_model.specs.State.{LoadedSegment, MachineState, register}
+use Rattle.elf_file.specs.Image.{ProgramImage}
+use Rattle.rv_model.specs.State.{register}
 use Rattle.rv_model.specs.Text.{text_base, data_base, bytes_of_words, layout}
-use Rattle.rv_model.specs.Start.{loaded_segment, started}
+use Rattle.rv_model.specs.Start.{started, program_image}
 use Rattle.rv_model.proofs.TextLemmas.{length-bytes_of_words}
-
--- the image with these words and data, at the places that an executable has for them
-abbrev pub program_image : List ℕ → List ℕ → ℕ → ProgramImage
-program_image words init extra = record {
-  begin = text_base;
-  segments = record { base = text_base; size = 4 * length words; flags = 5; init = bytes_of_words words } ∷
-      record { base = data_base; size = length init + extra; flags = 6; init = init } ∷ [];
-}
 
 pub segments-started : (words init : List ℕ) (extra : ℕ) (input : List ℕ) → (started (program_image words init extra) input).segments ≡ layout words (init ++ replicate extra 0)
 unfolding started

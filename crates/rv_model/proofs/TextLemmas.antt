@@ -1,5 +1,5 @@
 -- From the words of a text to what the machine fetches, and from data to what it loads and stores.
-use Rattle.std.proofs.Common.{◌≡◌, ◌≢◌, ℕ, zero, suc, ◌+◌, ◌-◌, ◌*◌, ◌/◌, ◌%◌, ◌<◌, ◌≤◌, ◌^◌, ◌==◌, ◌&&◌, nat_le, Bool, true, false, cond, List, [], ◌∷◌, ◌++◌, length, take, drop, Option, Some, None, refl, sym, ◌∙◌, ap, subst, arith, rules}
+use Rattle.std.proofs.Common.{◌≡◌, ℕ, zero, suc, ◌+◌, ◌-◌, ◌*◌, ◌%◌, ◌<◌, ◌≤◌, ◌^◌, ◌==◌, nat_le, true, false, List, [], ◌∷◌, ◌++◌, length, take, drop, Some, refl, ◌∙◌, ap, subst, arith}
 use Rattle.std.specs.Prelude.{slice_range, slice_get}
 use Rattle.std.proofs.Common.{get_or, length-drop, drop-cons}
 use Rattle.std.proofs.Math.Seq.{drop-append_seam}
@@ -9,11 +9,10 @@ use Rattle.std.proofs.lemmas.Bool.Decides.{nat_tests}
 use Rattle.byteorder.specs.Endian.{little_number, little_bytes}
 use borrow.Rule.Slice.PartMut.{put_mid}
 use Rattle.rv_inst.specs.declared.instruction.Form.{Form}
-use Rattle.rv_inst.specs.Word.{Word, form_at}
 use Rattle.rv_inst.proofs.WordLemmas.{form_at_word, word_small}
-use Rattle.rv_model.specs.State.{LoadedSegment, MachineState}
-use Rattle.rv_model.specs.Memory.{executed, written, read, serves, bytes_at, stored, word_at}
-use Rattle.rv_model.specs.Step.{StepResult, step, act, fetched, decoded}
+use Rattle.rv_model.specs.State.{MachineState}
+use Rattle.rv_model.specs.Memory.{read, bytes_at, stored, word_at}
+use Rattle.rv_model.specs.Step.{step, act, fetched, decoded}
 use Rattle.rv_model.specs.Text.{text_base, data_base, bytes_of_words, layout, Stands, StandsAll, WordsOf}
 use Rattle.rv_model.proofs.ByteLemmas.{little_number-little_bytes}
 

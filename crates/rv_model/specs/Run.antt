@@ -1,5 +1,5 @@
 -- A run in which at most one bit of one register is flipped.
-use Rattle.std.specs.Prelude.{◌≡◌, ℕ, zero, suc, ◌+◌, ◌-◌, ◌^◌, ◌<◌, ◌==◌, List, Option, Some, None, IfSome, if◌then◌else◌, bit_xor}
+use Rattle.std.specs.Prelude.{ℕ, zero, suc, ◌+◌, ◌-◌, ◌^◌, ◌<◌, ◌==◌, List, Option, Some, None, IfSome, if◌then◌else◌, bit_xor}
 use Rattle.rv_model.specs.declared.Cause.{Cause}
 use Rattle.rv_model.specs.declared.Flip.{Flip}
 use Rattle.rv_model.specs.State.{MachineState, register, set_register}

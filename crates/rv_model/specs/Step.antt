@@ -1,5 +1,5 @@
 -- One instruction (RISC-V Unprivileged ISA, RV64I and M; of the environment's calls the one that ends the program).
-use Rattle.std.specs.Prelude.{ℕ, suc, ℤ, ◌+◌, ◌-◌, ◌*◌, ◌%◌, ◌^◌, ◌==◌, nat_lt, List, Option, Some, None, if◌then◌else◌}
+use Rattle.std.specs.Prelude.{ℕ, ℤ, Bool, ◌+◌, ◌-◌, ◌*◌, ◌%◌, ◌^◌, ◌==◌, nat_lt, List, Option, Some, None, if◌then◌else◌}
 use Rattle.byteorder.specs.Endian.{little_number}
 use Rattle.rv_inst.specs.declared.instruction.Form.{Form}
 use Rattle.rv_inst.specs.declared.instruction.Form.TheVariants.{LUI, ADDI, ECALL}
@@ -45,6 +45,10 @@ kept (Some segments) s = Continues (next (record s { segments = segments }))
 -- the environment's call that x17 numbers: 93 ends the program with the lowest byte of x10
 abbrev pub called : MachineState → StepResult
 called s = if register s 17 == 93 then Ends (register s 10 % 256) else Traps s.pc Call
+
+-- the state after a branch: it goes on at the offset where the test holds, else at the next word
+abbrev pub branched : Bool → ℤ → MachineState → MachineState
+branched test offset s = jump s (if test then plus64 s.pc (bits64 offset) else plus64 s.pc 4)
 
 -- what an instruction does
 unfoldable pub act : Form → MachineState → StepResult

@@ -1,5 +1,5 @@
 -- The look-up's answer is the instruction whose word it is.
-use Rattle.std.proofs.Common.{◌≡◌, ◌∙◌, sym, ap, Some, None, arith}
+use Rattle.std.proofs.Common.{Some, None, arith}
 use Rattle.rv_inst.proofs.WordLemmas.{form_at_fits, exact_answer}
 use Rattle.rv_inst.proofs.words.decode.Goals as goal
 

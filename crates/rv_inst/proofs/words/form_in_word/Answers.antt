@@ -1,5 +1,5 @@
 -- The look-up by opcode is that of the table.
-use Rattle.std.proofs.Common.{◌≡◌, ◌∙◌, sym, ap, Some, arith}
+use Rattle.std.proofs.Common.{arith}
 use Rattle.rv_inst.proofs.WordLemmas.{form_at_found, form_at_missing}
 use Rattle.rv_inst.proofs.words.form_in_word.Goals as goal
 

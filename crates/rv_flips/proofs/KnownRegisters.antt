@@ -1,0 +1,63 @@
+-- Which registers are taken to be right in every case, and so must be listed.
+use Rattle.std.proofs.Common.{◌≡◌, ◌≢◌, ℕ, ◌<◌, ◌==◌, ◌⊎◌, inl, inr, Bool, true, false, List, [], ◌∷◌, refl, sym, ◌∙◌, subst, arith}
+use Rattle.std.proofs.lemmas.Bool.Decides.{nat_tests}
+use Rattle.rv_flips.specs.Cells.{Cell, Has, Sure}
+use Rattle.rv_flips.specs.Points.{Point, with_register}
+use Rattle.rv_flips.specs.Moves.{Covered}
+use Rattle.rv_flips.proofs.CellLemmas.{with_register-same, with_register-other}
+
+-- r is one of the registers
+abbrev pub IsOneOf : ℕ → List ℕ → Type 0
+IsOneOf r [] = ⊥
+IsOneOf r (x ∷ xs) = (r ≡ x) ⊎ IsOneOf r xs
+
+-- of the registers but x0, these alone are taken to be right in every case
+abbrev pub Sures : (ℕ → Cell) → List ℕ → Type 0
+Sures regs rs = (r v : ℕ) → regs r ≡ Has Sure v → 0 < r → IsOneOf r rs
+
+-- each of the registers is listed at p
+abbrev pub AllListed : (ℕ → ℕ → Type 0) → ℕ → List ℕ → Type 0
+AllListed listed p [] = Unit {0}
+AllListed listed p (x ∷ xs) = listed p x × AllListed listed p xs
+
+is_listed : (listed : ℕ → ℕ → Type 0) (p r : ℕ) (rs : List ℕ) → AllListed listed p rs → IsOneOf r rs → listed p r
+is_listed listed p r [] h k = absurd k
+is_listed listed p r (x ∷ xs) h (inl e) = let P : ℕ → Type 0 = λ q. listed p q in subst P (sym e) h.0
+is_listed listed p r (x ∷ xs) h (inr k) = is_listed listed p r xs h.1 k
+
+pub covered : (listed : ℕ → ℕ → Type 0) (c : Point) (rs : List ℕ) → Sures c.regs rs → AllListed listed c.pc rs → Covered listed c
+covered listed c rs sures all r v is nonzero = is_listed listed c.pc r rs all (sures r v is nonzero)
+
+-- one more register
+pub sures_sure : (regs : ℕ → Cell) (d v : ℕ) (rs : List ℕ) → Sures regs rs → Sures (with_register regs d (Has Sure v)) (d ∷ rs)
+sures_sure regs d v rs sures r w is nonzero = by_place (r == d) refl
+  where
+    by_place : (b : Bool) → (r == d) ≡ b → IsOneOf r (d ∷ rs)
+    by_place true e = inl (grind (arith, nat_tests))
+    by_place false e = let other : r ≢ d = grind (arith, nat_tests) in inr (sures r w (sym (with_register-other regs d r (Has Sure v) other) ∙ is) nonzero)
+
+-- a register that is kept otherwise
+pub sures_other : (regs : ℕ → Cell) (d : ℕ) (cell : Cell) (rs : List ℕ) → ((v : ℕ) → cell ≡ Has Sure v → ⊥) → Sures regs rs → Sures (with_register regs d cell) rs
+sures_other regs d cell rs not_sure sures r w is nonzero = by_place (r == d) refl
+  where
+    by_place : (b : Bool) → (r == d) ≡ b → IsOneOf r rs
+    by_place true e =
+        let same : r ≡ d = grind (arith, nat_tests) in
+        let P : ℕ → Type 0 = λ k. with_register regs d cell k ≡ Has Sure w in
+        absurd (not_sure w (sym (with_register-same regs d cell) ∙ subst P same is))
+    by_place false e = let other : r ≢ d = grind (arith, nat_tests) in sures r w (sym (with_register-other regs d r cell other) ∙ is) nonzero
+
+-- the first of the registers is kept otherwise from here
+pub sures_without : (regs : ℕ → Cell) (d : ℕ) (cell : Cell) (rs : List ℕ) → ((v : ℕ) → cell ≡ Has Sure v → ⊥) → Sures regs (d ∷ rs) → Sures (with_register regs d cell) rs
+sures_without regs d cell rs not_sure sures r w is nonzero = by_place (r == d) refl
+  where
+    others : IsOneOf r (d ∷ rs) → r ≢ d → IsOneOf r rs
+    others (inl e) ne = absurd (ne e)
+    others (inr k) ne = k
+
+    by_place : (b : Bool) → (r == d) ≡ b → IsOneOf r rs
+    by_place true e =
+        let same : r ≡ d = grind (arith, nat_tests) in
+        let P : ℕ → Type 0 = λ k. with_register regs d cell k ≡ Has Sure w in
+        absurd (not_sure w (sym (with_register-same regs d cell) ∙ subst P same is))
+    by_place false e = let other : r ≢ d = grind (arith, nat_tests) in others (sures r w (sym (with_register-other regs d r cell other) ∙ is) nonzero) other
