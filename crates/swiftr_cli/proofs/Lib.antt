@@ -3,6 +3,5 @@ mod Literals
 mod JobLaws
 mod Complete
 mod PointsText
-mod ExitWords
 mod Delivered
 mod ExitSurvives

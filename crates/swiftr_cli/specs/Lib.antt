@@ -4,7 +4,6 @@ pub mod Statuses
 pub mod FirstForm
 pub mod Program
 pub mod Points
-pub mod ExitProgram
 pub mod Hardened
 pub mod Gives
 pub mod Answers
