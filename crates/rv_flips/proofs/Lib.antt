@@ -1,0 +1,4 @@
+pub mod CellLemmas
+pub mod FlipLemmas
+pub mod MoveLemmas
+pub mod WordLaws

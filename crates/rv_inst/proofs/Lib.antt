@@ -1,0 +1,4 @@
+pub mod EachKind
+pub mod EachFormat
+pub mod Lookup
+pub mod WordLemmas

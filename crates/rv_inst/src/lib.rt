@@ -1,0 +1,15 @@
+//! The words of RV64I and the M extension (RISC-V Unprivileged ISA): each of the 63 instructions by its
+//! name and operands, its 32-bit word both ways, and the registers that it reads and writes.
+#![tactic(auto)]
+
+mod fields;
+mod forms;
+mod instruction;
+mod opcodes;
+mod table;
+#[cfg(test)]
+mod tests;
+mod words;
+
+pub use instruction::{Form, Rv};
+pub use words::{decode, encode, reads, words_are_distinct, writes};

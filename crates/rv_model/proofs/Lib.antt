@@ -1,0 +1,6 @@
+pub mod RegisterLemmas
+pub mod ByteLemmas
+pub mod TextLemmas
+pub mod RunLemmas
+pub mod StartLemmas
+pub mod ActLemmas
