@@ -1,17 +1,16 @@
 -- What is written reads back.
-use Rattle.std.proofs.Common.{◌≡◌, ℕ, ◌+◌, ◌-◌, ◌*◌, ◌^◌, ◌%◌, ◌<◌, ◌≤◌, Bool, true, false, min, max, nat_lt, nat_le, ◌==◌, ◌&&◌, ◌||◌, List, [], ◌∷◌, ◌++◌, length, take, drop, map, filter, replicate, refl, ap, sym, ◌∙◌, All, Some, Ok, arith, append_assoc, length-append}
-use Rattle.std.proofs.lemmas.Bool.{and_from, or_right, or_from, le-leb, le-ltb, eq-eqb}
+use Rattle.std.proofs.Common.{◌≡◌, ℕ, ◌+◌, ◌-◌, ◌*◌, ◌^◌, ◌%◌, ◌<◌, ◌≤◌, true, false, min, max, nat_lt, ◌==◌, List, [], ◌∷◌, ◌++◌, length, take, drop, map, filter, replicate, refl, ap, sym, ◌∙◌, All, Some, Ok, arith, append_assoc, length-append}
+use Rattle.std.proofs.lemmas.Bool.{and_from, or_right, le-leb, le-ltb, eq-eqb}
 use Rattle.std.proofs.lemmas.List.{append-nil, length-replicate}
 use Rattle.std.proofs.lemmas.List.Elements.{All-head, All-tail}
 use Rattle.std.proofs.Math.Seq.{drop-append_seam, take-append_seam}
 use Rattle.std.specs.List.{list_all}
 use Rattle.byteorder.specs.Endian.{little_bytes, little_number}
 use Rattle.byteorder.specs.Numbers.{little_number-reads_back}
-use Rattle.elf_file.specs.declared.header.FileHeader.{FileHeader}
 use Rattle.elf_file.specs.declared.header.ProgramHeader.{ProgramHeader}
-use Rattle.elf_file.specs.Image.{ImageSegment, ProgramImage, any_shared, memory_size, most_memory, overlap, text_of, words_of}
+use Rattle.elf_file.specs.Image.{ImageSegment, most_memory, overlap, words_of}
 use Rattle.elf_file.specs.Layout.{file_bytes, file_header_bytes, header_of_data, header_of_executable, header_of_text, page_end, program_header_bytes, text_bytes}
-use Rattle.elf_file.specs.ReadBack.{ReadsBack, TextReadsBack, written_image}
+use Rattle.elf_file.specs.ReadBack.{ReadsBack, TextReadsBack}
 use Rattle.elf_file.specs.Reading.{file_header, has_good_headers, image_of, is_elf, is_good_header, is_load, is_right_kind, lie_in_file, load_headers, number_at, program_header, program_headers, reading_of, segment_of}
 use Rattle.elf_file.proofs.Headers.{same_program_header}
 use Rattle.elf_file.proofs.Images.{reading-image}
@@ -61,11 +60,13 @@ headed n o k e rest =
 
 length-headed : (n o k e : ℕ) (rest : List ℕ) → length (headed n o k e rest) ≡ 176 + length rest
 length-headed n o k e rest =
-    omega (arith,
-        length-append (file_header_bytes header_of_executable)
-        (program_header_bytes (header_of_text n) ++ (program_header_bytes (header_of_data o k e) ++ rest)),
-        length-append (program_header_bytes (header_of_text n)) (program_header_bytes (header_of_data o k e) ++ rest),
-        length-append (program_header_bytes (header_of_data o k e)) rest)
+    omega (
+      arith,
+      length-append (file_header_bytes header_of_executable)
+          (program_header_bytes (header_of_text n) ++ (program_header_bytes (header_of_data o k e) ++ rest)),
+      length-append (program_header_bytes (header_of_text n)) (program_header_bytes (header_of_data o k e) ++ rest),
+      length-append (program_header_bytes (header_of_data o k e)) rest,
+    )
 
 headed-elf : (n o k e : ℕ) (rest : List ℕ) → is_elf (headed n o k e rest) ≡ true
 headed-elf n o k e rest =
@@ -77,14 +78,26 @@ headed-kind n o k e rest = refl
 
 fits_text : (n : ℕ) → n ≤ 2 ^ 26 → Fits (header_of_text n)
 fits_text n small = record {
-  type = omega arith; flags = omega arith; offset = omega arith; vaddr = omega arith; paddr = omega arith;
-  filesz = omega arith; memsz = omega arith; align = omega arith
+  type = omega arith;
+  flags = omega arith;
+  offset = omega arith;
+  vaddr = omega arith;
+  paddr = omega arith;
+  filesz = omega arith;
+  memsz = omega arith;
+  align = omega arith;
 }
 
 fits_data : (o k e : ℕ) → o ≤ 2 ^ 27 → k + e ≤ 2 ^ 27 → Fits (header_of_data o k e)
 fits_data o k e near small = record {
-  type = omega arith; flags = omega arith; offset = omega arith; vaddr = omega arith; paddr = omega arith;
-  filesz = omega arith; memsz = omega arith; align = omega arith
+  type = omega arith;
+  flags = omega arith;
+  offset = omega arith;
+  vaddr = omega arith;
+  paddr = omega arith;
+  filesz = omega arith;
+  memsz = omega arith;
+  align = omega arith;
 }
 
 headed-loads : (n o k e : ℕ) (rest : List ℕ) → n ≤ 2 ^ 26 → o ≤ 2 ^ 27 → k + e ≤ 2 ^ 27
@@ -114,11 +127,11 @@ headed-good n o k e rest small near few text_lies data_lies =
     let f = headed n o k e rest in
     and_from _ _
     (ap (λ h. lie_in_file (length f) h.e_phoff (56 * h.e_phnum))
-        (file_header-bytes (program_header_bytes (header_of_text n) ++ (program_header_bytes (header_of_data o k e) ++ rest)))
-        ∙ lies_from (length f) 64 112 (omega (arith, long)))
+    (file_header-bytes (program_header_bytes (header_of_text n) ++ (program_header_bytes (header_of_data o k e) ++ rest)))
+    ∙ lies_from (length f) 64 112 (omega (arith, long)))
     (ap (list_all (is_good_header (length f))) (headed-loads n o k e rest small near few)
-        ∙ and_from _ _ (good_from (length f) (header_of_text n) (omega (arith, long, text_lies)) (omega arith) (omega arith))
-        (and_from _ _ (good_from (length f) (header_of_data o k e) (omega (arith, long, data_lies)) (omega arith) (omega arith)) refl))
+    ∙ and_from _ _ (good_from (length f) (header_of_text n) (omega (arith, long, text_lies)) (omega arith) (omega arith))
+    (and_from _ _ (good_from (length f) (header_of_data o k e) (omega (arith, long, data_lies)) (omega arith) (omega arith)) refl))
 
 -- a part of a list that stands after a front of a known length
 part : (front xs back : List ℕ) (offset n : ℕ) → length front ≡ offset → length xs ≡ n
@@ -141,9 +154,15 @@ following words init gap = replicate 3920 0 ++ (text_bytes words ++ (replicate g
 
 length-following : (words init : List ℕ) (gap : ℕ) → length (following words init gap) ≡ 3920 + (4 * length words + (gap + length init))
 length-following words init gap =
-    omega (arith, length-append (replicate 3920 0) (text_bytes words ++ (replicate gap 0 ++ init)),
-        length-replicate {A = ℕ} 3920 0, length-append (text_bytes words) (replicate gap 0 ++ init), length-text_bytes words,
-        length-append (replicate gap 0) init, length-replicate {A = ℕ} gap 0)
+    omega (
+      arith,
+      length-append (replicate 3920 0) (text_bytes words ++ (replicate gap 0 ++ init)),
+      length-replicate {A = ℕ} 3920 0,
+      length-append (text_bytes words) (replicate gap 0 ++ init),
+      length-text_bytes words,
+      length-append (replicate gap 0) init,
+      length-replicate {A = ℕ} gap 0,
+    )
 
 text_part : (n o k e : ℕ) (words init : List ℕ) (gap : ℕ) → n ≡ 4 * length words
     → take n (drop 4096 (headed n o k e (following words init gap))) ≡ text_bytes words
@@ -167,8 +186,17 @@ data_part n o k e words init gap size place count =
     let t = text_bytes words in
     let y : List ℕ = replicate gap 0 in
     let front_size : length (a ++ b ++ c ++ z ++ t ++ y) ≡ o =
-    omega (arith, length-append (a ++ b ++ c ++ z ++ t) y, length-append (a ++ b ++ c ++ z) t, length-append (a ++ b ++ c) z,
-        length-append (a ++ b) c, length-append a b, length-replicate {A = ℕ} 3920 0, length-replicate {A = ℕ} gap 0, length-text_bytes words) in
+    omega (
+      arith,
+      length-append (a ++ b ++ c ++ z ++ t) y,
+      length-append (a ++ b ++ c ++ z) t,
+      length-append (a ++ b ++ c) z,
+      length-append (a ++ b) c,
+      length-append a b,
+      length-replicate {A = ℕ} 3920 0,
+      length-replicate {A = ℕ} gap 0,
+      length-text_bytes words,
+    ) in
     ap (λ f. take k (drop o f)) (regroup_data a b c z t y init)
     ∙ part (a ++ b ++ c ++ z ++ t ++ y) init [] o k front_size (sym count)
 

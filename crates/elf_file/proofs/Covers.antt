@@ -1,7 +1,7 @@
 -- Ranges of addresses share one exactly if some address is counted twice, and sorted ranges share one
 -- exactly if neighbours do.
-use Rattle.std.proofs.Common.{◌≡◌, ◌≢◌, ℕ, zero, suc, ◌+◌, ◌-◌, ◌<◌, ◌≤◌, min, max, Bool, true, false, cond, ◌==◌, ◌||◌, not, List, [], ◌∷◌, length, filter, refl, ap, sym, subst, ◌∙◌, ◌⊎◌, inl, inr, arith, sum_by, slice_index_or}
-use Rattle.std.proofs.lemmas.Bool.{ltb-true, ltb-false, leb-false, lt-ltb, le-ltb, le-leb, lt-leb, or_cases, or_parts, cases_lt, cases_Bool, both_ways}
+use Rattle.std.proofs.Common.{◌≡◌, ℕ, zero, suc, ◌+◌, ◌<◌, ◌≤◌, min, max, Bool, true, false, cond, ◌==◌, not, List, [], ◌∷◌, length, filter, refl, ap, sym, subst, ◌⊎◌, inl, inr, arith, sum_by, slice_index_or}
+use Rattle.std.proofs.lemmas.Bool.{ltb-true, ltb-false, lt-ltb, le-ltb, le-leb, lt-leb, or_cases, or_parts, cases_lt, cases_Bool, both_ways}
 use Rattle.std.proofs.lemmas.Bool.Decides.{eqb_tells}
 use Rattle.std.proofs.lemmas.List.Elements.{All-cons}
 use Rattle.std.proofs.lemmas.List.Sorted.{sum_by-IsPermutation}

@@ -1,5 +1,5 @@
 -- The file that the steps of `write` build is the one that the layout states.
-use Rattle.std.proofs.Common.{◌≡◌, ℕ, suc, ◌+◌, ◌-◌, ◌*◌, ◌≤◌, List, [], ◌∷◌, ◌++◌, length, take, replicate, refl, ap, sym, ◌∙◌, arith, length-append, append_assoc}
+use Rattle.std.proofs.Common.{◌≡◌, ℕ, ◌+◌, ◌-◌, ◌*◌, ◌≤◌, List, [], ◌∷◌, ◌++◌, length, take, replicate, refl, ap, ◌∙◌, arith, length-append}
 use Rattle.std.proofs.lemmas.List.{take_all, length-replicate}
 use Rattle.byteorder.specs.Endian.{little_bytes}
 use Rattle.elf_file.specs.Layout.{file_header_bytes, program_header_bytes, header_of_executable, header_of_text, header_of_data, page_end, text_bytes, file_bytes}

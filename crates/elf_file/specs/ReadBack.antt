@@ -11,7 +11,7 @@ written_image words init extra = record {
   segments =
       record { base = 0x10000; size = 4 * length words; flags = 5; init = text_bytes words }
       ∷ record { base = 0x1000_0000; size = length init + extra; flags = 6; init = init }
-      ∷ []
+      ∷ [];
 }
 
 -- the file of any words and data within the limits of `write` reads as that image

@@ -1,19 +1,21 @@
 //! Executables in the ELF-64 Object File Format, for RISC-V.
 #![tactic(auto)]
 
+ghost use Rattle.elf_file.specs.ReadBack.{ReadsBack, TextReadsBack};
+
 mod error;
 mod extents;
 mod header;
 mod reader;
 mod segments;
+#[cfg(test)]
+mod tests;
 mod writer;
 
 pub use error::ElfError;
 pub use reader::read;
 pub use segments::{Bytes, Image, Segment, Segments};
 pub use writer::write;
-
-ghost use Rattle.elf_file.specs.ReadBack.{ReadsBack, TextReadsBack};
 
 /// The law that what [`write`] gives reads back, whatever the words and the data.
 ///
@@ -22,5 +24,4 @@ ghost use Rattle.elf_file.specs.ReadBack.{ReadsBack, TextReadsBack};
 pub fn written_reads_back()
     ensures image { ReadsBack }
     ensures text { TextReadsBack }
-{
-}
+{}

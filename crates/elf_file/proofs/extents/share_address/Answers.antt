@@ -1,6 +1,4 @@
-use Rattle.std.proofs.Common.{◌≡◌, ◌+◌, ◌<◌, ◌≤◌, true, false, ap, sym, ◌∙◌}
 use Rattle.elf_file.specs.declared.extents.Extent.{Extent}
-use Rattle.elf_file.specs.Extents.{any_extents_shared}
 use Rattle.elf_file.proofs.Covers.{arranged_answer}
 use Rattle.elf_file.proofs.extents.share_address.Goals as goal
 

@@ -1,0 +1,11 @@
+//! A machine that runs RV64IM executables one instruction at a time, and in which one bit of one register
+//! can be flipped before any instruction.
+#![tactic(auto)]
+
+mod memory;
+mod processor;
+mod runner;
+mod values;
+
+pub use processor::{Machine, Tick};
+pub use runner::{Outcome, Output, run};

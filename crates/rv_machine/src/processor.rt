@@ -1,0 +1,214 @@
+//! The machine, and one step of it.
+
+ghost use Rattle.std.specs.Prelude.{◌≡◌, ◌<◌, Some, map, IfOk, OnErr};
+ghost use Rattle.rv_inst.specs.Word.{Fits};
+ghost use Rattle.rv_machine.specs.Ticks.{IsTick};
+ghost use Rattle.rv_model.specs.Memory.{word_at};
+ghost use Rattle.rv_model.specs.Run.{flipped};
+ghost use Rattle.rv_model.specs.Start.{loaded_segment, started};
+ghost use Rattle.rv_model.specs.State.{next, register, set_register};
+ghost use Rattle.rv_model.specs.Step.{act, called, fetched, put, step};
+
+use crate::memory::{EXECUTED, MemorySegment, bytes_at};
+use crate::runner::Output;
+use crate::values::{bits64, upper_value};
+use byteorder::{ByteOrder, LittleEndian};
+use elf_file::{Image, Segment};
+use rv_inst::{Form, decode};
+use rv_model::Cause;
+use std::alloc::{AllocError, Global};
+use std::marker::Model;
+
+/// The number of the call that ends the program, in x17.
+const EXIT: u64 = 93;
+
+/// What one step did.
+#[derive(Clone, Copy, PartialEq, Eq, Debug)]
+pub enum Tick {
+    /// An instruction was executed, and the machine goes on.
+    Went,
+    /// The program ended with this status.
+    Ended(u8),
+    /// The instruction at this pc could not be executed.
+    Trapped(u64, Cause),
+}
+
+/// A machine that runs a program: its registers, memory, input and output.
+///
+/// A contract sees it as a state of the machine's definition.
+#[derive(Drop)]
+pub struct Machine {
+    registers: [u64; 32],
+    pc: u64,
+    segments: Vec<MemorySegment>,
+    input: Vec<u8>,
+    out: Output,
+}
+
+impl Model for Machine {
+    ghost use Rattle.rv_model.specs.State.{MachineState};
+
+    ghost Value = { MachineState };
+
+    ghost view = { λ m. record { regs = m.registers; pc = m.pc; segments = m.segments.items; input = m.input.items; out = m.out } };
+}
+
+/// The segments of memory, each with its bytes of the file and then zeros.
+fn load_segments(alloc: Global, segments: &[Segment]) -> Result<Vec<MemorySegment>, AllocError>
+    ensures { IfOk result (λ loaded. loaded.items ≡ map loaded_segment segments.now) }
+{
+    let mut loaded = Vec::with_capacity(alloc, segments.len())?;
+    for segment in segments {
+        loaded.push(MemorySegment::load(alloc, segment)?)?;
+    }
+    Ok(loaded)
+}
+
+impl Machine {
+    /// The machine at the start of an image's program, with this input.
+    #[tactic(auto, unfolding(rv_model::specs::Start::started))]
+    pub fn load(alloc: Global, image: &Image, input: &[u8]) -> Result<Machine, AllocError>
+        ensures { IfOk result (λ machine. machine ≡ started image.now input.now) }
+    {
+        Ok(Machine {
+            registers: [0; 32],
+            pc: image.begin,
+            segments: load_segments(alloc, image.segments.as_slice())?,
+            input: Vec::from_slice(alloc, input)?,
+            out: Output::new(alloc),
+        })
+    }
+
+    /// The address of the next instruction.
+    pub fn pc(&self) -> u64
+        ensures { result ≡ self.now.pc }
+    {
+        self.pc
+    }
+
+    /// The output so far.
+    pub fn out(&self) -> &[u8]
+        ensures { result.now ≡ self.now.out }
+    {
+        self.out.as_slice()
+    }
+
+    /// The output so far, of a machine that is done with.
+    pub fn into_out(self) -> Output
+        ensures { result ≡ self.out }
+    {
+        self.out
+    }
+
+    /// Turns one bit of one register. All else stays.
+    pub fn flip(&mut self, reg: u8, bit: u8)
+        requires above { 0 < reg }
+        requires reg { reg < 32 }
+        requires bit { bit < 64 }
+        ensures { self.new ≡ flipped reg bit self.old }
+    {
+        let value = self.register(reg);
+        self.set_register(reg, value ^ (1 << bit));
+    }
+
+    /// One instruction. Where the program ends or the instruction traps, the machine stays as it was.
+    ///
+    /// # Errors
+    ///
+    /// Memory may be wanted for output; the machine then stays as it was.
+    pub fn step(&mut self) -> Result<Tick, AllocError>
+        ensures ok { IfOk result (λ tick. IsTick tick (step self.old) self.old self.new) }
+        ensures err { OnErr result (self.new ≡ self.old) }
+    {
+        let Some(word) = self.word_here() else {
+            return Ok(Tick::Trapped(self.pc(), Cause::Fetch));
+        };
+        Ok(self.execute(word))
+    }
+
+    /// The word at the pc, where one can be executed there.
+    #[tactic(auto, unfolding(rv_model::specs::Memory::word_at))]
+    fn word_here(&self) -> Option<u32>
+        ensures { result ≡ word_at self.now.pc self.now.segments }
+    {
+        if self.pc % 4 != 0 {
+            return None;
+        }
+        let bytes = bytes_at(self.segments.as_slice(), EXECUTED, self.pc, 4)?;
+        Some(LittleEndian::read_u32(bytes))
+    }
+
+    /// Executes the instruction of a word that was fetched.
+    fn execute(&mut self, word: u32) -> Tick
+        ensures { IsTick result (fetched (Some word) self.old) self.old self.new }
+    {
+        match decode(word) {
+            Some(instruction) => self.act(instruction.form()),
+            None => Tick::Trapped(self.pc(), Cause::Illegal),
+        }
+    }
+
+    /// Executes an instruction.
+    #[tactic(auto, unfolding(rv_model::specs::Step::act))]
+    fn act(&mut self, form: Form) -> Tick
+        requires { Fits form }
+        ensures { IsTick result (act form self.old) self.old self.new }
+    {
+        match form {
+            Form::LUI(rd, imm) => self.put(rd, upper_value(imm)),
+            Form::ADDI(rd, rs1, imm) => {
+                let sum = self.register(rs1).wrapping_add(bits64(imm));
+                self.put(rd, sum)
+            }
+            Form::ECALL => self.call(),
+            _ => Tick::Trapped(self.pc(), Cause::Illegal),
+        }
+    }
+
+    /// Puts a value into a register, and goes on at the next word.
+    fn put(&mut self, rd: u8, value: u64) -> Tick
+        requires { rd < 32 }
+        ensures { IsTick result (put rd value self.old) self.old self.new }
+    {
+        self.set_register(rd, value);
+        self.go_on();
+        Tick::Went
+    }
+
+    /// The environment's call that x17 numbers.
+    fn call(&mut self) -> Tick
+        ensures { IsTick result (called self.old) self.old self.new }
+    {
+        if self.register(17) == EXIT {
+            Tick::Ended((self.register(10) % 256) as u8)
+        } else {
+            Tick::Trapped(self.pc(), Cause::Call)
+        }
+    }
+
+    /// What a register holds.
+    fn register(&self, r: u8) -> u64
+        requires { r < 32 }
+        ensures { result ≡ register self.now r }
+    {
+        self.registers[r as usize]
+    }
+
+    /// Writes a register; x0 stays 0.
+    #[tactic(auto, unfolding(rv_model::specs::State::set_register))]
+    fn set_register(&mut self, r: u8, value: u64)
+        requires { r < 32 }
+        ensures { self.new ≡ set_register self.old r value }
+    {
+        if r != 0 {
+            self.registers[r as usize] = value;
+        }
+    }
+
+    /// Goes on at the next word.
+    fn go_on(&mut self)
+        ensures { self.new ≡ next self.old }
+    {
+        self.pc = self.pc.wrapping_add(4);
+    }
+}

@@ -1,0 +1,28 @@
+//! The 64 bits that immediates stand for.
+
+ghost use Rattle.std.specs.Prelude.{◌≡◌, ◌^◌};
+ghost use Rattle.rv_inst.specs.Word.{IsBelow};
+ghost use Rattle.rv_model.specs.Step.{bits64, upper_value};
+
+/// The bits above the lowest 32, all set.
+const ALL_ABOVE_WORD: u64 = 0xffff_ffff_0000_0000;
+
+/// The two's complement of a signed number in 64 bits.
+pub fn bits64(number: i32) -> u64
+    ensures { result ≡ bits64 number }
+{
+    i64::from(number).cast_unsigned()
+}
+
+/// The value of LUI: its 20 bits above 12 zeros, extended by their sign.
+pub fn upper_value(field: i32) -> u64
+    requires { IsBelow (2 ^ 20) field }
+    ensures { result ≡ upper_value field }
+{
+    let word = (field as u64) << 12;
+    if word < 1 << 31 {
+        word
+    } else {
+        word + ALL_ABOVE_WORD
+    }
+}
