@@ -7,3 +7,4 @@ pub mod StartLaws
 pub mod Windows
 pub mod EndingLaws
 pub mod SlotLemmas
+pub mod Fetch

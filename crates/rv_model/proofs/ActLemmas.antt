@@ -1,10 +1,10 @@
 -- What each instruction does, as one equation.
-use Rattle.std.proofs.Common.{◌≡◌, ℕ, ◌+◌, ◌-◌, ◌*◌, ◌%◌, ◌<◌, ◌≤◌, ◌^◌, Bool, true, false, cond, refl, arith}
+use Rattle.std.proofs.Common.{◌≡◌, ℕ, ◌+◌, ◌-◌, ◌*◌, ◌%◌, ◌<◌, ◌≤◌, ◌^◌, ◌==◌, Bool, true, false, cond, refl, arith}
 use Rattle.std.specs.Prelude.{ℤ, pos, negsuc, nat_lt}
-use Rattle.rv_inst.specs.declared.instruction.Form.TheVariants.{LUI, ADDI, ECALL}
+use Rattle.rv_inst.specs.declared.instruction.Form.TheVariants.{LUI, BEQ, ADDI, ECALL}
 use Rattle.rv_inst.specs.Word.{IsBelow, IsSigned}
 use Rattle.rv_model.specs.State.{MachineState, register, plus64}
-use Rattle.rv_model.specs.Step.{Ends, bits64, sign_extended, upper_value, put, called, act}
+use Rattle.rv_model.specs.Step.{Continues, Ends, bits64, sign_extended, upper_value, put, branched, called, act}
 
 pub act-LUI : (rd : ℕ) (imm : ℤ) (s : MachineState) → act (LUI rd imm) s ≡ put rd (upper_value imm) s
 unfolding act
@@ -13,6 +13,10 @@ act-LUI rd imm s = refl
 pub act-ADDI : (rd rs1 : ℕ) (imm : ℤ) (s : MachineState) → act (ADDI rd rs1 imm) s ≡ put rd (plus64 (register s rs1) (bits64 imm)) s
 unfolding act
 act-ADDI rd rs1 imm s = refl
+
+pub act-BEQ : (rs1 rs2 : ℕ) (offset : ℤ) (s : MachineState) → act (BEQ rs1 rs2 offset) s ≡ Continues (branched (register s rs1 == register s rs2) offset s)
+unfolding act
+act-BEQ rs1 rs2 offset s = refl
 
 pub act-ECALL : (s : MachineState) → act ECALL s ≡ called s
 unfolding act

@@ -2,7 +2,7 @@
 use Rattle.std.specs.Prelude.{ℕ, ℤ, Bool, ◌+◌, ◌-◌, ◌*◌, ◌%◌, ◌^◌, ◌==◌, nat_lt, List, Option, Some, None, if◌then◌else◌}
 use Rattle.byteorder.specs.Endian.{little_number}
 use Rattle.rv_inst.specs.declared.instruction.Form.{Form}
-use Rattle.rv_inst.specs.declared.instruction.Form.TheVariants.{LUI, ADDI, ECALL}
+use Rattle.rv_inst.specs.declared.instruction.Form.TheVariants.{LUI, BEQ, ADDI, ECALL}
 use Rattle.rv_inst.specs.Format.{bits_of, unsigned}
 use Rattle.rv_inst.specs.Word.{form_at}
 use Rattle.rv_model.specs.declared.Cause.{Cause}
@@ -54,6 +54,7 @@ branched test offset s = jump s (if test then plus64 s.pc (bits64 offset) else p
 unfoldable pub act : Form → MachineState → StepResult
 act (LUI rd imm) s = put rd (upper_value imm) s
 act (ADDI rd rs1 imm) s = put rd (plus64 (register s rs1) (bits64 imm)) s
+act (BEQ rs1 rs2 offset) s = Continues (branched (register s rs1 == register s rs2) offset s)
 act ECALL s = called s
 act _ s = Traps s.pc Illegal
 
