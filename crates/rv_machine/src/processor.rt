@@ -7,7 +7,7 @@ ghost use Rattle.rv_model.specs.Memory.{word_at};
 ghost use Rattle.rv_model.specs.Run.{flipped};
 ghost use Rattle.rv_model.specs.Start.{loaded_segment, started};
 ghost use Rattle.rv_model.specs.State.{next, register, set_register};
-ghost use Rattle.rv_model.specs.Step.{act, called, fetched, put, step};
+ghost use Rattle.rv_model.specs.Step.{act, called, fetched, Continues, branched, put, step};
 
 use crate::memory::{EXECUTED, MemorySegment, bytes_at};
 use crate::runner::Output;
@@ -160,6 +160,10 @@ impl Machine {
                 let sum = self.register(rs1).wrapping_add(bits64(imm));
                 self.put(rd, sum)
             }
+            Form::BEQ(rs1, rs2, offset) => {
+                let equal = self.register(rs1) == self.register(rs2);
+                self.branch(equal, offset)
+            }
             Form::ECALL => self.call(),
             _ => Tick::Trapped(self.pc(), Cause::Illegal),
         }
@@ -172,6 +176,15 @@ impl Machine {
     {
         self.set_register(rd, value);
         self.go_on();
+        Tick::Went
+    }
+
+    /// Goes on at an offset in bytes where the test holds, and else at the next word.
+    fn branch(&mut self, test: bool, offset: i32) -> Tick
+        ensures { IsTick result (Continues (branched test offset self.old)) self.old self.new }
+    {
+        let bytes = if test { bits64(offset) } else { 4 };
+        self.pc = self.pc.wrapping_add(bytes);
         Tick::Went
     }
 
