@@ -17,7 +17,8 @@ use Rattle.rv_flips.specs.Survives.{IsListed, Survives}
 use Rattle.rv_flips.proofs.CellLemmas.{with_register-same, with_register-other}
 use Rattle.rv_flips.proofs.MoveLemmas.{moves_then, moves_finish}
 use Rattle.rv_flips.proofs.WordLaws.{constant_moves, exit_finishes}
-use Rattle.rv_flips.proofs.KnownRegisters.{Sures, covered, sures_sure}
+use Rattle.rv_flips.specs.Known.{Sures}
+use Rattle.rv_flips.proofs.KnownRegisters.{covered, sures_sure}
 use Rattle.rv_flips.proofs.StartLaws.{first_point, first_cells-zero, sures-first_cells, survives}
 use Rattle.rv_flips.proofs.Windows.{window_straight}
 

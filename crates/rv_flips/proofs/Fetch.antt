@@ -1,35 +1,27 @@
 -- The right value of three copies, of which at most one is wrong, comes into a fourth register: `addi d,a,0`, `beq d,b,8`, `addi d,t,0`.
-use Rattle.std.proofs.Common.{◌≡◌, ◌≢◌, ℕ, zero, suc, ◌+◌, ◌%◌, ◌<◌, ◌≤◌, ◌^◌, ◌==◌, ◌⊎◌, inl, inr, Bool, true, false, cond, List, [], ◌∷◌, length, Option, Some, None, refl, sym, ◌∙◌, ap, subst, arith}
+use Rattle.std.proofs.Common.{◌≡◌, ◌≢◌, ℕ, suc, ◌+◌, ◌<◌, ◌^◌, ◌==◌, ◌⊎◌, inl, inr, Bool, true, false, List, Option, None, refl, sym, ◌∙◌, ap, subst, arith}
 use Rattle.std.specs.Prelude.{pos}
 use Rattle.std.proofs.lemmas.Bool.Decides.{nat_tests}
-use Rattle.rv_inst.specs.declared.instruction.Form.{Form}
 use Rattle.rv_inst.specs.declared.instruction.Form.TheVariants.{ADDI, BEQ}
 use Rattle.rv_inst.specs.Word.{Fits}
 use Rattle.rv_model.specs.declared.Flip.{Flip}
 use Rattle.rv_model.specs.State.{MachineState, register, set_register, plus64, jump, next}
-use Rattle.rv_model.specs.Step.{StepResult, Continues, bits64, branched, put, act, step}
-use Rattle.rv_model.specs.Run.{RunResult, more, after, run}
+use Rattle.rv_model.specs.Step.{StepResult, Continues, branched, put, step}
+use Rattle.rv_model.specs.Run.{more, after, run}
 use Rattle.rv_model.specs.Text.{Stands, StandsAll}
 use Rattle.rv_model.proofs.ActLemmas.{act-ADDI, act-BEQ}
 use Rattle.rv_model.proofs.RunLemmas.{run-continues, more-more}
 use Rattle.rv_model.proofs.TextLemmas.{step-stands}
-use Rattle.rv_flips.specs.Cells.{Case, Right, First, Second, Third, Plains, Codes, Tag, Sure, One, Two, Three, Cell, Free, Has, Holds, with_error}
+use Rattle.rv_flips.specs.Cells.{Case, Right, First, Second, Third, Sure, One, Two, Three, Cell, Has, Holds, with_error}
 use Rattle.rv_flips.specs.Points.{Point, Sat, with_register, writes}
-use Rattle.rv_flips.specs.Moves.{Pending, Good, Covered, Ready, Arrives, Moves}
+use Rattle.rv_flips.specs.Moves.{Covered, Ready, Arrives, Moves}
 use Rattle.rv_flips.proofs.CellLemmas.{sure_holds, with_register-same, with_register-other}
 use Rattle.rv_flips.proofs.FlipLemmas.{ready}
 use Rattle.rv_flips.proofs.MoveLemmas.{moves_then, moves_weaker, settled}
 use Rattle.rv_flips.proofs.WordLaws.{put_sat, copy_moves, cell_sat}
-use Rattle.rv_flips.proofs.KnownRegisters.{Sures, AllListed, covered, sures_other}
-
-abbrev pub fetch_words : ℕ → ℕ → ℕ → ℕ → List Form
-fetch_words d a b t = ADDI d a (pos 0) ∷ BEQ d b (pos 8) ∷ ADDI d t (pos 0) ∷ []
-
--- three copies of a value
-pub record IsTriple (regs : ℕ → Cell) (a b t v : ℕ) : Type 0 where
-  pub one : regs a ≡ Has One v
-  pub two : regs b ≡ Has Two v
-  pub three : regs t ≡ Has Three v
+use Rattle.rv_flips.specs.Known.{Sures, AllListed}
+use Rattle.rv_flips.specs.Fetching.{fetch_words, IsTriple}
+use Rattle.rv_flips.proofs.KnownRegisters.{covered, sures_other}
 
 -- the state at another address
 pub jump_sat : (words : List ℕ) (c : Point) (p : ℕ) (i : Case) (s : MachineState) → Sat words c i s → Sat words (record c { pc = p }) i (jump s p)

@@ -1,24 +1,11 @@
 -- Which registers are taken to be right in every case, and so must be listed.
-use Rattle.std.proofs.Common.{◌≡◌, ◌≢◌, ℕ, ◌<◌, ◌==◌, ◌⊎◌, inl, inr, Bool, true, false, List, [], ◌∷◌, refl, sym, ◌∙◌, subst, arith}
+use Rattle.std.proofs.Common.{◌≡◌, ◌≢◌, ℕ, ◌==◌, inl, inr, Bool, true, false, List, [], ◌∷◌, refl, sym, ◌∙◌, subst, arith}
 use Rattle.std.proofs.lemmas.Bool.Decides.{nat_tests}
 use Rattle.rv_flips.specs.Cells.{Cell, Has, Sure}
 use Rattle.rv_flips.specs.Points.{Point, with_register}
+use Rattle.rv_flips.specs.Known.{IsOneOf, Sures, AllListed}
 use Rattle.rv_flips.specs.Moves.{Covered}
 use Rattle.rv_flips.proofs.CellLemmas.{with_register-same, with_register-other}
-
--- r is one of the registers
-abbrev pub IsOneOf : ℕ → List ℕ → Type 0
-IsOneOf r [] = ⊥
-IsOneOf r (x ∷ xs) = (r ≡ x) ⊎ IsOneOf r xs
-
--- of the registers but x0, these alone are taken to be right in every case
-abbrev pub Sures : (ℕ → Cell) → List ℕ → Type 0
-Sures regs rs = (r v : ℕ) → regs r ≡ Has Sure v → 0 < r → IsOneOf r rs
-
--- each of the registers is listed at p
-abbrev pub AllListed : (ℕ → ℕ → Type 0) → ℕ → List ℕ → Type 0
-AllListed listed p [] = Unit {0}
-AllListed listed p (x ∷ xs) = listed p x × AllListed listed p xs
 
 is_listed : (listed : ℕ → ℕ → Type 0) (p r : ℕ) (rs : List ℕ) → AllListed listed p rs → IsOneOf r rs → listed p r
 is_listed listed p r [] h k = absurd k

@@ -11,7 +11,7 @@ use Rattle.rv_flips.specs.Cells.{Right, Cell, Free, Has, Sure, Holds}
 use Rattle.rv_flips.specs.Points.{Point, Sat}
 use Rattle.rv_flips.specs.Moves.{EndsWithin, Finishes}
 use Rattle.rv_flips.specs.Survives.{IsListed, Ends, Survives}
-use Rattle.rv_flips.proofs.KnownRegisters.{Sures}
+use Rattle.rv_flips.specs.Known.{Sures}
 
 -- x0 is 0
 unfoldable pub first_cells : ℕ → Cell

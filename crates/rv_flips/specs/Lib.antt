@@ -3,3 +3,5 @@ pub mod Points
 pub mod Moves
 pub mod Survives
 pub mod Ending
+pub mod Known
+pub mod Fetching

@@ -9,6 +9,7 @@ ghost use Rattle.rv_model.specs.Step.{bits64};
 ghost use Rattle.rv_model.specs.Text.{text_base, WordsOf};
 ghost use Rattle.rv_flips.specs.Ending.{ending_words, ending_points};
 ghost use Rattle.rv_flips.specs.Survives.{IsListed, Survives};
+ghost use Rattle.rv_flips.specs.Fetching.{Fetches};
 
 /// A law: a program of the three words `addi x10,x0,N`, `addi x17,x0,93` and `ecall` ends with the
 /// lowest byte of N and without output, whatever its data and its input, also when one bit of one register
@@ -20,4 +21,11 @@ pub fn ending_survives()
         (2 * (length words + 1)) }
     ensures listed { (words : List ℕ) (n : ℤ) (p r : ℕ) → WordsOf words (ending_words n) →
         IsListed ending_points p r → IsWindowPoint words text_base p r }
+{}
+
+/// A law: `addi d,a,0`, `beq d,b,8`, `addi d,t,0` bring the right value of three copies, of which at most one
+/// is wrong, into a fourth register, wherever they stand, for any registers with d apart from b and t, and
+/// whatever flip outside the list comes before, within or after them.
+pub fn three_copies_are_fetched()
+    ensures { Fetches }
 {}

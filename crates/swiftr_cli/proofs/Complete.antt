@@ -1,11 +1,10 @@
 -- What can be done is done, where no fault comes and memory suffices: each other status has a cause against it.
-use Rattle.std.proofs.Common.{◌≡◌, ◌≤◌, ◌<◌, ℕ, List, length, inl, inr, refl, arith, subst, Option, Some, None}
+use Rattle.std.proofs.Common.{◌≡◌, ℕ, List, inl, inr, refl, arith, subst, Option, Some, None}
 use Rattle.sr_base.specs.Files.{Files, held, Holds}
 use Rattle.sr_base.specs.Meanings.{StoreMeaning, SinkMeaning}
 use Rattle.swiftr_cli.specs.Words.{Form, compile}
-use Rattle.swiftr_cli.specs.FirstForm.{Returns}
-use Rattle.swiftr_cli.specs.Gives.{IsAccepted, RefusesText, CanBeDone}
-use Rattle.swiftr_cli.specs.Answers.{IsCausedBy, IsComplete, IsFaultless}
+use Rattle.swiftr_cli.specs.Gives.{IsAccepted, RefusesText}
+use Rattle.swiftr_cli.specs.Answers.{IsCausedBy, IsComplete}
 use Rattle.swiftr_cli.specs.declared.status.Status.{Status}
 use Rattle.swiftr_cli.specs.declared.status.Status.TheVariants.{Done, Usage, Refused, ReadFault, WriteFault, NoMemory, Absent}
 

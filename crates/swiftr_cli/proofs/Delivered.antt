@@ -1,15 +1,13 @@
 -- Where only the put failed, the output holds what the form gives.
-use Rattle.std.proofs.Common.{◌≡◌, ◌<◌, ◌≤◌, ◌+◌, ℕ, inl, inr, refl, ap, sym, subst, arith, Option, Some, None, Vec, List}
+use Rattle.std.proofs.Common.{ℕ, inl, inr, ap, subst, arith, Option, Vec, List}
 use Rattle.std.specs.declared.alloc.Global.{Global}
 use Rattle.sr_base.specs.Counts.{Rose}
-use Rattle.sr_base.specs.Files.{Files}
 use Rattle.sr_base.specs.Meanings.{StoreMeaning, SinkMeaning}
 use Rattle.swiftr_cli.specs.Words.{Form}
-use Rattle.swiftr_cli.specs.Gives.{output_of}
 use Rattle.swiftr_cli.specs.Answers.{IsWritten, Delivers, DeliversOf}
-use Rattle.swiftr_cli.specs.Jobs.{IsJobOf, IsOnlyRead, FailsInPut, FailsInHandOut, output_bytes, output_name}
+use Rattle.swiftr_cli.specs.Jobs.{IsJobOf, IsOnlyRead, FailsInPut, FailsInHandOut, output_bytes}
 use Rattle.swiftr_cli.specs.declared.status.Status.{Status}
-use Rattle.swiftr_cli.specs.declared.status.Status.TheVariants.{Done, Usage, Refused, ReadFault, WriteFault, NoMemory, Absent}
+use Rattle.swiftr_cli.specs.declared.status.Status.TheVariants.{WriteFault, NoMemory}
 use Rattle.swiftr_cli.specs.declared.job.Output.{Output}
 use Rattle.swiftr_cli.specs.declared.job.Job.TheVariants.{Whole}
 

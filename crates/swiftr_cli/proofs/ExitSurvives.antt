@@ -1,5 +1,5 @@
 -- The executable that ends with a status survives every flip outside its points.
-use Rattle.std.proofs.Common.{◌≡◌, ◌<◌, ◌≤◌, ◌+◌, ◌*◌, ◌%◌, ◌^◌, ℕ, pos, List, [], ◌∷◌, length, Option, Some, refl, sym, subst, arith, All}
+use Rattle.std.proofs.Common.{◌≡◌, ◌<◌, ◌+◌, ◌*◌, ◌%◌, ◌^◌, ℕ, pos, List, [], ◌∷◌, length, Option, Some, refl, sym, subst, arith, All}
 use Rattle.std.proofs.lemmas.List.Elements.{All-cons, All-nil}
 use Rattle.std.specs.List.{AllByRecursion}
 use Rattle.elf_file.specs.Image.{words_of}
@@ -10,8 +10,8 @@ use Rattle.rv_inst.specs.declared.instruction.Form.TheVariants.{ADDI, ECALL}
 use Rattle.rv_inst.specs.Word.{Word}
 use Rattle.rv_inst.specs.Window.{IsWindowPoint}
 use Rattle.rv_model.specs.Text.{WordsOf, text_base}
-use Rattle.rv_flips.specs.Ending.{ending_words, ending_points}
-use Rattle.rv_flips.specs.Survives.{Survives, IsListed}
+use Rattle.rv_flips.specs.Ending.{ending_words}
+use Rattle.rv_flips.specs.Survives.{Survives}
 use Rattle.rv_flips.proofs.EndingLaws.{ending_survives, ending_windows}
 use Rattle.swiftr_cli.specs.declared.points.Point.{Point}
 use Rattle.swiftr_cli.specs.Program.{exit_words, executable}
@@ -40,10 +40,13 @@ exit_survives status input h =
 -- each point of the list is a window point of the words
 exit_windows : (status : ℕ) → status < 256 → AllByRecursion (λ (point : Point). IsWindowPoint (exit_words status) text_base point.pc point.reg) exit_points
 exit_windows status h =
-    let at = ending_windows (exit_words status) (pos status) (are_ending status h) in
-    (at 0x10004 10 (0, (0x10004, 10), omega arith, refl, (refl, refl)),
-    (at 0x10008 10 (1, (0x10008, 10), omega arith, refl, (refl, refl)),
-    (at 0x10008 17 (2, (0x10008, 17), omega arith, refl, (refl, refl)), tt)))
+    let at = ending_windows (exit_words status) (pos status) (are_ending status h) in (
+      at 0x10004 10 (0, (0x10004, 10), omega arith, refl, (refl, refl)),
+      (
+        at 0x10008 10 (1, (0x10008, 10), omega arith, refl, (refl, refl)),
+        (at 0x10008 17 (2, (0x10008, 17), omega arith, refl, (refl, refl)), tt),
+      ),
+    )
 
 words_fit : (status : ℕ) → status < 256 → All (λ w. w < 2 ^ 32) (exit_words status)
 words_fit status h =
@@ -62,9 +65,10 @@ words_back : (status : ℕ) → status < 256 → words_of (text_bytes (exit_word
 words_back status h = some_is _ _ (text_reads_back (exit_words status) [] 0 (words_fit status h))
 
 within : AllByRecursion IsPoint exit_points
-within =
-    (record { address = omega arith; register = omega arith },
-    (record { address = omega arith; register = omega arith }, (record { address = omega arith; register = omega arith }, tt)))
+within = (
+  record { address = omega arith; register = omega arith },
+  (record { address = omega arith; register = omega arith }, (record { address = omega arith; register = omega arith }, tt)),
+)
 
 pub exit_is_hardened : (status : ℕ) → status < 256 → IsHardened (executable status) exit_points status
 exit_is_hardened status h =

@@ -1,9 +1,7 @@
 -- From what was made of a text to the job of the form.
-use Rattle.std.proofs.Common.{◌≡◌, ◌≤◌, ◌<◌, arith, subst, w32, to_z, of_z, ℕ, ℤ, pos, negsuc, List, [], length, codes, inl, inr, refl, ap, sym, ◌∙◌, Option, Some, None, Result, Ok, Err, IfOk, IfErr, MatchResult, Vec}
-use Rattle.std.specs.declared.alloc.Global.{Global}
-use Rattle.sr_base.specs.Files.{Files, Holds}
+use Rattle.std.proofs.Common.{◌≡◌, ◌≤◌, ◌<◌, arith, subst, w32, to_z, of_z, ℕ, ℤ, pos, negsuc, List, [], length, codes, inl, inr, refl, ap, sym, ◌∙◌, Some, None, Result, Ok, Err, IfOk, IfErr, MatchResult}
 use Rattle.sr_base.specs.Meanings.{StoreMeaning}
-use Rattle.swiftr_cli.specs.Words.{Form, compile}
+use Rattle.swiftr_cli.specs.Words.{compile}
 use Rattle.swiftr_cli.specs.FirstForm.{Returns, exit_status}
 use Rattle.swiftr_cli.specs.Program.{executable}
 use Rattle.swiftr_cli.specs.Points.{points_text, exit_points}
@@ -12,9 +10,9 @@ use Rattle.swiftr_cli.proofs.Literals.{nine_digits_fit}
 use Rattle.swiftr_cli.proofs.ExitSurvives.{exit_is_hardened}
 use Rattle.std.proofs.lemmas.Int.{to_z-of_z}
 use Rattle.swiftr_cli.specs.Gives.{GivesExecutable, most_text}
-use Rattle.swiftr_cli.specs.Jobs.{IsRefusal, IsBuilt, IsJobOf, IsReadAs, StopsEarly, StopsReading}
+use Rattle.swiftr_cli.specs.Jobs.{IsRefusal, IsBuilt, IsJobOf, IsReadAs, StopsEarly}
 use Rattle.swiftr_cli.specs.declared.status.Status.{Status}
-use Rattle.swiftr_cli.specs.declared.status.Status.TheVariants.{Done, Usage, Refused, ReadFault, WriteFault, NoMemory, Absent}
+use Rattle.swiftr_cli.specs.declared.status.Status.TheVariants.{NoMemory}
 use Rattle.swiftr_cli.specs.declared.job.Job.{Job}
 use Rattle.swiftr_cli.specs.declared.job.Job.TheVariants.{Whole, Refusal}
 
@@ -31,9 +29,14 @@ status_small (negsuc n) = omega arith
 -- the executable, the text of its points and no line are what compiling the text gives
 pub gives_executable : (text : List ℕ) (number : ℤ) (bytes points line : List ℕ) → length text ≤ most_text → Returns text number → bytes ≡ executable (exit_status number) → points ≡ points_text exit_points → line ≡ [] → GivesExecutable text (record { image = Some bytes; text = points; line = line })
 gives_executable text number bytes points line short returns is_executable are_points none =
-    let P : List ℕ → Type 0 = λ b. IsHardened b exit_points (exit_status number) in
-    (number, bytes, exit_points, (short, returns), subst P (sym is_executable) (exit_is_hardened (exit_status number) (status_small number)),
-    ap (λ (t : List ℕ). record { image = Some bytes; text = t; line = line }) are_points ∙ ap (λ (l : List ℕ). record { image = Some bytes; text = points_text exit_points; line = l }) none)
+    let P : List ℕ → Type 0 = λ b. IsHardened b exit_points (exit_status number) in (
+      number,
+      bytes,
+      exit_points,
+      (short, returns),
+      subst P (sym is_executable) (exit_is_hardened (exit_status number) (status_small number)),
+      ap (λ (t : List ℕ). record { image = Some bytes; text = t; line = line }) are_points ∙ ap (λ (l : List ℕ). record { image = Some bytes; text = points_text exit_points; line = l }) none,
+    )
 
 -- a number that a text returns passes unchanged as 32 bits
 pub returned_kept : (text : List ℕ) (number : ℤ) → Returns text number → to_z w32 (of_z w32 number) ≡ number

@@ -1,5 +1,5 @@
 -- A text has at most one literal, and a literal is read as the number that it writes.
-use Rattle.std.proofs.Common.{◌≡◌, ◌≢◌, ◌<◌, ◌≤◌, ◌+◌, ◌^◌, ℕ, List, [], ◌∷◌, ◌++◌, ◌⊎◌, inl, inr, refl, ap, sym, ◌∙◌, arith, append_assoc, codes, Option, Some, None, Result, Ok, Err, ℤ, pos, negsuc, MatchOption, IfNone, unsigned_abs, w32, FitsSigned, Bor, rules, subst}
+use Rattle.std.proofs.Common.{◌≡◌, ◌≢◌, ◌<◌, ◌^◌, ℕ, List, [], ◌∷◌, ◌++◌, inl, inr, refl, ap, sym, ◌∙◌, arith, append_assoc, codes, Option, Some, None, Result, Ok, ℤ, pos, negsuc, MatchOption, IfNone, unsigned_abs, w32, FitsSigned, Bor, subst}
 use Rattle.std.proofs.lemmas.List.{append_cancel_left, append_cancel_right}
 use Rattle.std.proofs.lemmas.Int.{ints}
 use Rattle.std.proofs.lemmas.Fmt.{parse-signed_decimal, IsAscii-signed}
@@ -9,7 +9,7 @@ use Rattle.std.specs.Fmt.{signed_decimal}
 use Rattle.std.specs.Str.{IsUtf8}
 use lib.Signed.{mag}
 use Rattle.std.specs.Str.Parse.{ParsesSigned}
-use Rattle.swiftr_cli.specs.FirstForm.{Writes, IsEnd, ReturnsLiteral, Returns}
+use Rattle.swiftr_cli.specs.FirstForm.{Writes, IsEnd, Returns}
 
 -- two lists that are equal have the same last item
 last_is : (xs ys : List ℕ) (a b : ℕ) → xs ++ a ∷ [] ≡ ys ++ b ∷ [] → a ≡ b

@@ -1,5 +1,5 @@
 -- What the command has done with the store and the sinks, by the form of its words and its status.
-use Rattle.std.specs.Prelude.{◌≡◌, ◌⊎◌, ◌<◌, ℕ, List, [], codes, Option, Some, None}
+use Rattle.std.specs.Prelude.{◌≡◌, ◌⊎◌, ◌<◌, ℕ, List, [], Option, Some, None}
 use Rattle.sr_base.specs.Counts.{Rose}
 use Rattle.sr_base.specs.Bytes.{Takes, TakesPrefix}
 use Rattle.sr_base.specs.Files.{Files, Holds, SameBut}

@@ -9,7 +9,7 @@ use Rattle.sr_base.specs.Meanings.{StoreMeaning, SinkMeaning}
 use Rattle.swiftr_cli.specs.Words.{Form}
 use Rattle.swiftr_cli.specs.Statuses.{refused_line}
 use Rattle.swiftr_cli.specs.Answers.{IsWritten}
-use Rattle.swiftr_cli.specs.Gives.{Yield, Gives, GivesExecutable, Refuses, RefusesText, Lacks, output_of, most_text}
+use Rattle.swiftr_cli.specs.Gives.{Gives, GivesExecutable, Refuses, RefusesText, Lacks, output_of, most_text}
 use Rattle.swiftr_cli.specs.declared.status.Status.{Status}
 use Rattle.swiftr_cli.specs.declared.status.Status.TheVariants.{ReadFault, WriteFault, NoMemory, Absent}
 use Rattle.swiftr_cli.specs.declared.job.Output.{Output}

@@ -1,6 +1,5 @@
 use Rattle.std.proofs.Common.{◌≡◌, w32}
 use Rattle.std.proofs.lemmas.Int.{to_z-of_z}
-use Rattle.swiftr_cli.specs.FirstForm.{Writes}
 use Rattle.swiftr_cli.proofs.Literals.{literal_is_text, parsed_is, nine_digits_fit}
 use Rattle.swiftr_cli.proofs.first_form.number_of.Goals as goal
 

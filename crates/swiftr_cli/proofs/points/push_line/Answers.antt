@@ -1,5 +1,3 @@
-use Rattle.std.proofs.Common.{rules, ◌≡◌, IfOk, OnOk, ◌++◌, string_bytes}
-use Rattle.swiftr_cli.specs.Points.{point_line}
 use Rattle.swiftr_cli.proofs.Padding.{padded_to_eight}
 use Rattle.swiftr_cli.proofs.points.push_line.Goals as goal
 

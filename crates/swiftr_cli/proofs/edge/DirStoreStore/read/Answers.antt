@@ -1,4 +1,4 @@
-use Rattle.std.proofs.Common.{◌+◌, ◌<◌, ◌≤◌, replicate, refl, arith}
+use Rattle.std.proofs.Common.{◌+◌, replicate, refl, arith}
 use Rattle.std.proofs.lemmas.List.{length-replicate}
 use Rattle.swiftr_cli.proofs.edge.DirStoreStore.read.Goals as goal
 
