@@ -2,6 +2,8 @@
 
 use crate::edge::DirStore;
 use crate::top::swiftr;
+use rv_machine::Outcome;
+use rv_model::Flip;
 use sr_base::{MemSink, MemStore, Store, StoreError};
 use std::alloc::{AllocError, Global};
 use std::process::Abort;
@@ -206,5 +208,44 @@ fn real_files_are_read_and_refused(rt: HostRuntime) -> Result<(), Fail> {
     assert_eq!(rt; folder.err(), Some(StoreError::Failed));
     let lost = store.write("/no/such/folder/file", b"bytes");
     assert_eq!(rt; lost, Err(StoreError::Failed));
+    Ok(())
+}
+
+/// Whether a run ended as it should: with status 7, without output, after three instructions.
+fn is_seven(outcome: Outcome) -> bool {
+    match outcome {
+        Outcome::Ended { out, status, steps } => {
+            out.as_slice().is_empty() && status == 7 && steps == 3
+        }
+        Outcome::Trap { .. } => false,
+        Outcome::StepsOver { .. } => false,
+    }
+}
+
+#[test]
+fn every_flip_outside_the_list_is_survived(rt: HostRuntime) -> Result<(), Fail> {
+    let alloc = rt.alloc();
+    let mut store = MemStore::new(Vec::new(alloc));
+    store.add("a.ll", returning(alloc, "7 }")?.as_bytes())?;
+    let ended = run(alloc, "compile a.ll a.elf", &mut store, &[])?;
+    ends(&rt, "seven", ended, 0, POINTS, b"");
+    let image = elf_file::read(alloc, store.file("a.elf").unwrap_or(b""))?;
+    assert!(rt; is_seven(rv_machine::run(alloc, &image, b"input", 8, None)?));
+
+    // Each register and bit before each of the three instructions, and after the end.
+    let mut harmed = 0u32;
+    for at in 0..4u64 {
+        for reg in 1..32u8 {
+            for bit in 0..64u8 {
+                let flip = Flip { at, reg, bit };
+                let survived = is_seven(rv_machine::run(alloc, &image, b"", 8, Some(flip))?);
+                let listed = matches!((at, reg), (1, 10) | (2, 10) | (2, 17));
+                assert!(rt; survived || listed, "{at} {reg} {bit}");
+                harmed = harmed.wrapping_add(u32::from(!survived));
+            }
+        }
+    }
+    // The lowest eight bits of x10 twice, and each bit of x17.
+    assert_eq!(rt; harmed, 80);
     Ok(())
 }
