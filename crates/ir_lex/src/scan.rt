@@ -16,9 +16,9 @@ use std::alloc::Global;
 /// The tokens of a text, in order.
 ///
 /// The text is blanks, comments and tokens. Each token is taken by the first rule that fits, in the order
-/// of `Kind` but for labels, which come before strings, numbers and words, and is as long as its rule
-/// allows. `Bad` names the place where no token, blank or comment begins, behind tokens, blanks and
-/// comments; a text has at most one such place, and then it has no tokens.
+/// of `Kind`, and is as long as its rule allows. `Bad` names the place where no token, blank or comment
+/// begins, behind tokens, blanks and comments; a text has at most one such place, and then no token list.
+/// The time is linear in the length of the text.
 pub fn tokens(alloc: Global, text: &[u8]) -> Result<Vec<Token>, LexError>
     ensures tokens { IfOk result (λ toks. AreTokens text.now toks.items) }
     ensures refused { IfErr result (RefusesTokens text.now) }
