@@ -1,0 +1,10 @@
+pub mod Digits
+pub mod Floats
+pub mod Labels
+pub mod Integers
+pub mod Order
+pub mod Paths
+pub mod Pieces
+pub mod Rules
+pub mod Strings
+pub mod Unique

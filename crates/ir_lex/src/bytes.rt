@@ -1,0 +1,84 @@
+//! Classes of bytes.
+
+ghost use Rattle.std.specs.Prelude.{◌≡◌};
+ghost use Rattle.ir_lex.specs.Bytes.{is_digit, is_name_byte, is_word_start, is_meta_byte, is_punct, is_sign, is_exponent_mark, is_blank};
+
+/// A decimal digit.
+#[tactic(auto, unfolding(crate::specs::Bytes::is_digit))]
+pub fn is_digit(b: u8) -> bool
+    ensures { result ≡ is_digit b }
+{
+    b.is_ascii_digit()
+}
+
+/// A byte of a name without quotes: a letter, a digit, `$`, `.`, `_` or `-`.
+#[tactic(auto, unfolding(crate::specs::Bytes::is_name_byte))]
+pub fn is_name_byte(b: u8) -> bool
+    ensures { result ≡ is_name_byte b }
+{
+    b.is_ascii_alphabetic()
+        || b.is_ascii_digit()
+        || b == b'$'
+        || b == b'.'
+        || b == b'_'
+        || b == b'-'
+}
+
+/// A byte that a word begins with: a letter, `$`, `.` or `_`.
+#[tactic(auto, unfolding(crate::specs::Bytes::is_word_start))]
+pub fn is_word_start(b: u8) -> bool
+    ensures { result ≡ is_word_start b }
+{
+    b.is_ascii_alphabetic() || b == b'$' || b == b'.' || b == b'_'
+}
+
+/// A byte that may follow `!` in a token.
+#[tactic(auto, unfolding(crate::specs::Bytes::is_meta_byte))]
+pub fn is_meta_byte(b: u8) -> bool
+    ensures { result ≡ is_meta_byte b }
+{
+    is_name_byte(b) || b == b'\\'
+}
+
+/// `=`, `,`, `*`, `|` or a bracket.
+#[tactic(auto, unfolding(crate::specs::Bytes::is_punct))]
+pub fn is_punct(b: u8) -> bool
+    ensures { result ≡ is_punct b }
+{
+    b == b'='
+        || b == b','
+        || b == b'('
+        || b == b')'
+        || b == b'['
+        || b == b']'
+        || b == b'{'
+        || b == b'}'
+        || b == b'<'
+        || b == b'>'
+        || b == b'*'
+        || b == b'|'
+}
+
+/// `+` or `-`.
+#[tactic(auto, unfolding(crate::specs::Bytes::is_sign))]
+pub fn is_sign(b: u8) -> bool
+    ensures { result ≡ is_sign b }
+{
+    b == b'+' || b == b'-'
+}
+
+/// `e` or `E`.
+#[tactic(auto, unfolding(crate::specs::Bytes::is_exponent_mark))]
+pub fn is_exponent_mark(b: u8) -> bool
+    ensures { result ≡ is_exponent_mark b }
+{
+    b == b'e' || b == b'E'
+}
+
+/// A space, a tab, a carriage return or a line feed.
+#[tactic(auto, unfolding(crate::specs::Bytes::is_blank))]
+pub fn is_blank(b: u8) -> bool
+    ensures { result ≡ is_blank b }
+{
+    b == b' ' || b == b'\t' || b == b'\r' || b == b'\n'
+}
