@@ -1,11 +1,11 @@
 -- A run of which some instructions have been executed.
-use Rattle.std.proofs.Common.{◌≡◌, ℕ, suc, ◌+◌, ◌-◌, ◌<◌, List, Option, Some, None, true, false, cond, ◌==◌, refl, ap, sym, subst, ◌∙◌, arith}
+use Rattle.std.proofs.Common.{◌≡◌, ℕ, suc, ◌+◌, ◌-◌, ◌<◌, Option, Some, None, ◌==◌, refl, ap, sym, subst, ◌∙◌, arith}
 use Rattle.std.proofs.lemmas.Bool.{cond_both}
 use Rattle.std.specs.Option.{ForSome}
 use Rattle.rv_model.specs.declared.Cause.{Cause}
 use Rattle.rv_model.specs.declared.Flip.{Flip}
 use Rattle.rv_model.specs.State.{MachineState}
-use Rattle.rv_model.specs.Step.{StepResult, Continues, Ends, Traps, step}
+use Rattle.rv_model.specs.Step.{Continues, Ends, Traps, step}
 use Rattle.rv_model.specs.Run.{FlipFits, GoesOn, HasEnded, HasTrapped, flipped, later, more, run, struck}
 use Rattle.rv_model.proofs.RegisterLemmas.{out-set_register}
 use Rattle.rv_model.proofs.RunLemmas.{more-more, more-zero, run-continues, run-ends, run-traps, run-zero}

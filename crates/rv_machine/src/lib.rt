@@ -5,6 +5,8 @@
 mod memory;
 mod processor;
 mod runner;
+#[cfg(test)]
+mod tests;
 mod values;
 
 pub use processor::{Machine, Tick};

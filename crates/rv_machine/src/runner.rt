@@ -71,6 +71,18 @@ fn later(flip: Option<Flip>) -> Option<Flip>
     }
 }
 
+/// Flips the bit whose turn it is.
+fn strike(machine: &mut Machine, pending: Option<Flip>)
+    requires { ForSome pending FlipFits }
+    ensures { machine.new ≡ struck pending machine.old }
+{
+    if let Some(flip) = pending
+        && flip.at == 0
+    {
+        machine.flip(flip.reg, flip.bit);
+    }
+}
+
 /// The run of at most `steps` instructions of an image's program on this input, with a flip or none.
 ///
 /// A flip that the run doesn't reach does nothing.
@@ -109,16 +121,4 @@ pub fn run(
     Ok(Outcome::StepsOver {
         out: machine.into_out(),
     })
-}
-
-/// Flips the bit whose turn it is.
-fn strike(machine: &mut Machine, pending: Option<Flip>)
-    requires { ForSome pending FlipFits }
-    ensures { machine.new ≡ struck pending machine.old }
-{
-    if let Some(flip) = pending {
-        if flip.at == 0 {
-            machine.flip(flip.reg, flip.bit);
-        }
-    }
 }

@@ -1,5 +1,5 @@
-use Rattle.std.proofs.Common.{◌≡◌, ◌+◌, ap, sym, ◌∙◌, arith}
-use Rattle.rv_model.specs.Run.{GoesOn, HasEnded, HasTrapped, run}
+use Rattle.std.proofs.Common.{◌+◌, ap, sym, ◌∙◌, arith}
+use Rattle.rv_model.specs.Run.{HasEnded, HasTrapped, run}
 use Rattle.rv_model.specs.Step.{step}
 use Rattle.rv_machine.proofs.RunSoFar.{out-struck, progress-ends, progress-more, progress-over, progress-start, progress-traps}
 use Rattle.rv_machine.proofs.runner.run.Goals as goal

@@ -1,6 +1,3 @@
-use Rattle.std.proofs.Common.{◌≡◌, ◌-◌}
-use Rattle.std.specs.Option.{ForSome}
-use Rattle.rv_model.specs.Run.{FlipFits, more, run}
 use Rattle.rv_machine.proofs.RunSoFar.{Progress}
 use Rattle.rv_machine.proofs.runner.run.Given as goal
 
