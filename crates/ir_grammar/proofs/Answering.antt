@@ -1,7 +1,7 @@
 -- From what code gives, a reader's answer, to what its public contract says.
-use Rattle.std.proofs.Common.{◌≡◌, ℕ, ◌≤◌, List, length, drop, Result, Ok, Err, subst}
+use Rattle.std.proofs.Common.{ℕ, ◌≤◌, List, length, drop, Result, Ok, Err, subst}
 use Rattle.ir_grammar.specs.Language.{Lang}
-use Rattle.ir_grammar.specs.Reader.{Out, Got, Wrong, Reader}
+use Rattle.ir_grammar.specs.Reader.{Out, Reader}
 use Rattle.ir_grammar.specs.FirstWrong.{Reads}
 use Rattle.ir_grammar.specs.Code.{Gives, Answers}
 use Rattle.ir_grammar.specs.declared.Stop.{Stop}

@@ -1,5 +1,5 @@
 -- The law of a reader: what it gives at every list of symbols that begins alike, so that laws of parts make laws of wholes.
-use Rattle.std.proofs.Common.{◌≡◌, ℕ, ◌≤◌, Bool, true, false, List, [], ◌∷◌, ◌++◌, length, Option, None, Some, refl, sym, ◌∙◌, ap, subst, arith, append_assoc}
+use Rattle.std.proofs.Common.{◌≡◌, ℕ, ◌≤◌, Bool, true, false, List, [], ◌∷◌, ◌++◌, length, Option, None, Some, refl, ap, subst}
 use Rattle.ir_grammar.specs.Language.{Lang}
 use Rattle.ir_grammar.specs.Reader.{Out, Got, Wrong, Reader, opens}
 

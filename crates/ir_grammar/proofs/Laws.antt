@@ -1,10 +1,10 @@
 -- The law of each reader but the lists.
-use Rattle.std.proofs.Common.{◌≡◌, ℕ, zero, suc, ◌≤◌, ◌+◌, Bool, true, false, List, [], ◌∷◌, ◌++◌, length, Option, None, Some, ◌⊎◌, inl, inr, refl, sym, ◌∙◌, ap, subst, arith, append_assoc, length-append, if◌then◌else◌, is_some}
+use Rattle.std.proofs.Common.{◌≡◌, ℕ, zero, suc, ◌≤◌, ◌+◌, Bool, true, false, List, [], ◌∷◌, ◌++◌, length, Option, None, Some, inl, inr, refl, sym, ◌∙◌, ap, subst, arith, append_assoc, length-append, if◌then◌else◌}
 use Rattle.std.proofs.lemmas.List.{append_cancel_left}
 use Rattle.ir_grammar.specs.Language.{Lang, empty, pick, one, skip, seq, map_to, maybe, or_else}
 use Rattle.ir_grammar.specs.Reader.{Out, Got, Wrong, Reader, then_out, heads, opens, taken, run_empty, run_one, run_pick, run_skip, run_map, run_seq, run_maybe, run_or}
 use Rattle.ir_grammar.proofs.Sides.{starts_pick, starts_map, joins_empty}
-use Rattle.ir_grammar.proofs.Good.{first, never, Clear, Found, Missed, Outcome, Good, Starts, Joins, Within, first-append, clear_first, clear_never, clear_within, opens_clear, opens-append, opens_first}
+use Rattle.ir_grammar.proofs.Good.{first, never, Clear, Found, Missed, Outcome, Good, Starts, Joins, Within, first-append, clear_within, opens-append, opens_first}
 
 -- a reader that is good for a longer list is good for a shorter one
 pub good_less : {S V : Type 0} {n : ℕ} {L : Lang S V} {r : Reader S V} {s : S → Bool} (m : ℕ) → m ≤ n → Good n L r s → Good m L r s

@@ -1,11 +1,11 @@
 -- The law of each reader of a list: many, until, items, listed.
-use Rattle.std.proofs.Common.{◌≡◌, ℕ, zero, suc, ◌≤◌, Bool, true, false, List, [], ◌∷◌, ◌++◌, length, Option, None, Some, ◌⊎◌, inl, inr, refl, sym, ◌∙◌, ap, subst, arith, append_assoc, ◌||◌, is_some}
+use Rattle.std.proofs.Common.{◌≡◌, ℕ, zero, suc, ◌≤◌, Bool, true, false, List, [], ◌∷◌, ◌++◌, length, Option, None, Some, inl, inr, refl, sym, ◌∙◌, ap, subst, arith, append_assoc, ◌||◌}
 use Rattle.std.proofs.lemmas.List.{append-nil}
-use Rattle.ir_grammar.specs.Language.{Lang, empty, pick, one, skip, seq, map_to, many, or_else, cons, up_to, until, items, listed}
-use Rattle.ir_grammar.specs.Reader.{Reader, heads, opens, run_skip, run_many, run_close, run_until, run_items, run_listed}
-use Rattle.ir_grammar.proofs.Good.{first, never, Clear, Found, Good, Starts, Joins, Within, clear_first, opens-append}
+use Rattle.ir_grammar.specs.Language.{Lang, empty, one, skip, seq, map_to, many, or_else, cons, up_to, until, items, listed}
+use Rattle.ir_grammar.specs.Reader.{Reader, heads, opens, run_many, run_until, run_items, run_listed}
+use Rattle.ir_grammar.proofs.Good.{first, never, Found, Good, Starts, Joins}
 use Rattle.ir_grammar.proofs.Sides.{starts_pick, starts_map, starts_seq, starts_many, starts_more, joins_never, joins_empty, joins_starts, joins_or, joins_map, joins_seq, joins_many}
-use Rattle.ir_grammar.proofs.Laws.{good_same, good_closed, good_stop, good_less, good_none, good_empty, good_pick, good_skip, good_one, good_map, good_or, good_seq, good_then}
+use Rattle.ir_grammar.proofs.Laws.{good_same, good_less, good_none, good_empty, good_skip, good_map, good_or, good_seq, good_then}
 
 or_left : (a b : Bool) → a ≡ true → (a || b) ≡ true
 or_left true b e = refl

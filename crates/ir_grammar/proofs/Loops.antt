@@ -1,7 +1,7 @@
 -- Loops over the items of a list: the reader's answer is that of the items read so far and of those still to come.
-use Rattle.std.proofs.Common.{◌≡◌, ◌≤◌, length, drop, ℕ, zero, suc, Bool, true, false, List, [], ◌∷◌, ◌++◌, Option, None, Some, refl, sym, ◌∙◌, ap, append_assoc, if◌then◌else◌, is_some}
+use Rattle.std.proofs.Common.{◌≡◌, ◌≤◌, length, drop, ℕ, zero, suc, Bool, true, false, List, [], ◌∷◌, ◌++◌, Option, None, Some, refl, sym, ◌∙◌, ap, append_assoc, is_some}
 use Rattle.std.proofs.lemmas.List.{append-nil}
-use Rattle.ir_grammar.specs.Language.{cons, Mark, mark}
+use Rattle.ir_grammar.specs.Language.{cons, Mark}
 use Rattle.ir_grammar.specs.Code.{Stops}
 use Rattle.ir_grammar.specs.declared.Stop.{Stop}
 use Rattle.ir_grammar.specs.declared.Stop.TheVariants.{WrongSymbol, OutOfMemory}

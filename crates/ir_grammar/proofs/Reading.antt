@@ -1,11 +1,11 @@
 -- What follows from the law of a reader: it gives what the language spells, names the first wrong symbol, and reads back
 -- what was spelled; and a list has one reading at most.
-use Rattle.std.proofs.Common.{◌≡◌, ℕ, ◌≤◌, Bool, false, List, [], ◌∷◌, ◌++◌, length, Option, None, Some, refl, sym, ◌∙◌, ap, subst, arith, append_assoc, length-append, ◌⊎◌, inl, inr}
+use Rattle.std.proofs.Common.{◌≡◌, ℕ, ◌≤◌, Bool, List, [], ◌∷◌, ◌++◌, length, refl, sym, ◌∙◌, ap, subst, arith, append_assoc, length-append, ◌⊎◌, inl, inr}
 use Rattle.std.proofs.lemmas.List.{append_cancel_left, append_cancel_right, append-nil}
 use Rattle.ir_grammar.specs.Language.{Lang}
 use Rattle.ir_grammar.specs.Reader.{Out, Got, Wrong, Reader, all_read}
-use Rattle.ir_grammar.specs.FirstWrong.{Begins, FirstWrong, NoneSpelled, Reads, ReadsAll}
-use Rattle.ir_grammar.proofs.Good.{first, never, Clear, Found, Missed, Outcome, Good, clear_never, first-append}
+use Rattle.ir_grammar.specs.FirstWrong.{Begins, FirstWrong, Reads, ReadsAll}
+use Rattle.ir_grammar.proofs.Good.{first, never, Clear, Found, Missed, Outcome, Good, clear_never}
 
 first_wrong : {S V : Type 0} (L : Lang S V) (s : S → Bool) (ts rest : List S) → Missed L s ts rest → FirstWrong L ts rest
 first_wrong L s ts rest g = record {

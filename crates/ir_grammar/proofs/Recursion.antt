@@ -1,10 +1,10 @@
 -- Rules that lead back to themselves: such a rule is a fixed point, and its reader is good if the rule's is.
-use Rattle.std.proofs.Common.{◌≡◌, ℕ, zero, suc, ◌≤◌, ◌+◌, Bool, List, [], ◌∷◌, ◌++◌, length, Option, None, Some, ◌⊎◌, inl, inr, refl, arith}
+use Rattle.std.proofs.Common.{ℕ, zero, suc, ◌≤◌, ◌+◌, Bool, List, [], ◌∷◌, Option, None, Some, inl, inr, arith}
 use Rattle.ir_grammar.specs.Language.{Lang, pick, one, skip, seq, map_to, maybe, many, or_else, cons, up_to, until, items, listed, nothing, nested, recursive, empty}
-use Rattle.ir_grammar.specs.Reader.{Wrong, Reader, run_recursive}
+use Rattle.ir_grammar.specs.Reader.{Reader, run_recursive}
 use Rattle.ir_grammar.proofs.Good.{Good, Starts, Within}
 use Rattle.ir_grammar.proofs.Sides.{starts_recursive}
-use Rattle.ir_grammar.proofs.Laws.{good_same, good_none, good_less}
+use Rattle.ir_grammar.proofs.Laws.{good_same, good_none}
 
 -- what one of the languages of a family spells
 abbrev pub some_of : {S V : Type 0} → (ℕ → Lang S V) → Lang S V

@@ -1,13 +1,13 @@
 -- The law of the sample grammar: one line for each of its parts.
 use Rattle.std.proofs.Common.{◌≡◌, ℕ, Bool, true, false, refl}
-use Rattle.ir_grammar.specs.Language.{mark, one, seq, maybe}
+use Rattle.ir_grammar.specs.Language.{mark}
 use Rattle.ir_grammar.specs.Reader.{heads}
 use Rattle.ir_grammar.specs.Sample.{minus, open_mark, close_mark, comma, number, to_item, Alone, Together, item, entry, run_item, run_entry}
 use Rattle.ir_grammar.specs.declared.sample.Symbol.{Symbol}
 use Rattle.ir_grammar.specs.declared.sample.Symbol.TheVariants.{Minus, Number, Open, Close, Comma}
 use Rattle.ir_grammar.proofs.Good.{never, Good, Starts}
 use Rattle.ir_grammar.proofs.Sides.{starts_pick, starts_map, starts_more, starts_maybe, joins_starts}
-use Rattle.ir_grammar.proofs.Laws.{good_closed, good_one, good_next, good_map, good_seq, good_maybe, good_or}
+use Rattle.ir_grammar.proofs.Laws.{good_one, good_next, good_map, good_seq, good_maybe, good_or}
 use Rattle.ir_grammar.proofs.Lists.{good_listed}
 
 -- the symbols with which an item begins

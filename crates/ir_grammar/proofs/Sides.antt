@@ -1,6 +1,6 @@
 -- The side conditions of the laws: what a rule begins with, and that it doesn't go on with what stands before it.
-use Rattle.std.proofs.Common.{◌≡◌, ℕ, zero, suc, Bool, true, false, List, [], ◌∷◌, ◌++◌, Option, None, Some, ◌⊎◌, inl, inr, refl, sym, ◌∙◌, ap, subst, append_assoc, is_some}
-use Rattle.ir_grammar.specs.Language.{Lang, empty, pick, skip, seq, map_to, maybe, many, or_else, nested, recursive, nothing}
+use Rattle.std.proofs.Common.{◌≡◌, ℕ, zero, suc, Bool, true, false, List, [], ◌∷◌, ◌++◌, Option, None, Some, inl, inr, sym, ◌∙◌, ap, subst, append_assoc, is_some}
+use Rattle.ir_grammar.specs.Language.{Lang, empty, pick, seq, map_to, maybe, many, or_else, nested, recursive, nothing}
 use Rattle.ir_grammar.specs.Reader.{heads, opens}
 use Rattle.ir_grammar.proofs.Good.{never, Clear, Starts, Joins, clear_within, clear_never, opens-append}
 

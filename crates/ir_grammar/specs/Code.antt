@@ -1,8 +1,8 @@
 -- Contracts of readers in code: they go over a list of symbols by the number of the next one.
 use Rattle.std.specs.Prelude.{◌≡◌, ℕ, ◌≤◌, false, List, length, drop, Option, None, Some, Result, Ok, Err}
 use Rattle.ir_grammar.specs.Language.{Lang, Mark, mark}
-use Rattle.ir_grammar.specs.Reader.{Out, Got, Wrong, Reader, heads, opens, run_one}
-use Rattle.ir_grammar.specs.FirstWrong.{Reads, ReadsAll}
+use Rattle.ir_grammar.specs.Reader.{Out, Got, Wrong, heads, opens, run_one}
+use Rattle.ir_grammar.specs.FirstWrong.{Reads}
 use Rattle.ir_grammar.specs.declared.Stop.{Stop}
 use Rattle.ir_grammar.specs.declared.Stop.TheVariants.{WrongSymbol, OutOfMemory}
 

@@ -1,5 +1,5 @@
 -- What it means that a reader is right: it gives what the language spells, and else names the first wrong symbol.
-use Rattle.std.specs.Prelude.{◌≡◌, ℕ, List, [], ◌∷◌, ◌++◌}
+use Rattle.std.specs.Prelude.{◌≡◌, List, [], ◌∷◌, ◌++◌}
 use Rattle.ir_grammar.specs.Language.{Lang}
 use Rattle.ir_grammar.specs.Reader.{Out, Got, Wrong}
 

@@ -1,7 +1,7 @@
 -- A small grammar with an optional part, a choice and a list:
 --     item  = [ "-" ] Number
 --     entry = "(" [ item { "," item } ] ")" | item
-use Rattle.std.specs.Prelude.{ℕ, Bool, List, Option, None, Some, is_some}
+use Rattle.std.specs.Prelude.{ℕ, List, Option, None, Some, is_some}
 use Rattle.ir_grammar.specs.Language.{Lang, Mark, mark, one, skip, seq, map_to, maybe, or_else, listed}
 use Rattle.ir_grammar.specs.Reader.{Reader, heads, run_one, run_skip, run_seq, run_map, run_maybe, run_or, run_listed}
 use Rattle.ir_grammar.specs.declared.sample.Symbol.{Symbol}

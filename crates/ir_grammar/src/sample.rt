@@ -48,7 +48,8 @@ pub enum Entry {
 /// The symbol numbered `at`.
 fn symbol_at(symbols: &[Symbol], at: usize) -> Option<Symbol>
     requires { at ≤ length symbols.now }
-    ensures { MatchOption result (drop at symbols.now ≡ []) (λ s. (drop at symbols.now ≡ s ∷ drop (at + 1) symbols.now) × (at + 1 ≤ length symbols.now)) }
+    ensures { MatchOption result (drop at symbols.now ≡ [])
+        (λ s. (drop at symbols.now ≡ s ∷ drop (at + 1) symbols.now) × (at + 1 ≤ length symbols.now)) }
 {
     symbols.get(at).copied()
 }
@@ -145,7 +146,8 @@ fn items_at(
     budget: usize,
 ) -> Result<(Vec<Item>, usize), Stop>
     requires { at ≤ length symbols.now }
-    ensures { Gives (λ v. v.items) symbols.now result (run_items budget comma close_mark run_item (drop at symbols.now)) }
+    ensures { Gives (λ v. v.items) symbols.now result
+        (run_items budget comma close_mark run_item (drop at symbols.now)) }
 {
     let mut items = Vec::new(alloc);
     let mut next = at;
@@ -168,7 +170,8 @@ fn list_at(
     budget: usize,
 ) -> Result<(Vec<Item>, usize), Stop>
     requires { at ≤ length symbols.now }
-    ensures { Gives (λ v. v.items) symbols.now result (run_listed budget comma close_mark run_item (drop at symbols.now)) }
+    ensures { Gives (λ v. v.items) symbols.now result
+        (run_listed budget comma close_mark run_item (drop at symbols.now)) }
 {
     match after_close(symbols, at) {
         Some(end) => Ok((Vec::new(alloc), end)),

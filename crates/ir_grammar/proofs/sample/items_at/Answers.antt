@@ -1,4 +1,4 @@
-use Rattle.std.proofs.Common.{◌≡◌, ◌+◌, ◌-◌, ℕ, suc, length, drop, arith, refl}
+use Rattle.std.proofs.Common.{◌≡◌, ◌+◌, ◌-◌, suc, arith}
 use Rattle.std.proofs.lemmas.Result.{err_from_is_err_and}
 use Rattle.ir_grammar.proofs.Loops.{items_go_on, items_stop_in_item, items_stop_after_item, items_close, items_run_out}
 use Rattle.ir_grammar.proofs.sample.items_at.Goals as goal

@@ -1,4 +1,4 @@
-use Rattle.std.proofs.Common.{length, drop, arith, length-drop}
+use Rattle.std.proofs.Common.{arith, length-drop}
 use Rattle.ir_grammar.specs.Sample.{entry_view}
 use Rattle.ir_grammar.proofs.Answering.{answers}
 use Rattle.ir_grammar.proofs.SampleLaw.{good_entry}
