@@ -1,0 +1,1 @@
+//! Modules with the places of their items.
