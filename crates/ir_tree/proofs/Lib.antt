@@ -1,2 +1,3 @@
 mod Keys
 pub mod Table
+pub mod Grows
