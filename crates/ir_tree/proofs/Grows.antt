@@ -26,6 +26,20 @@ and_both {a = false} e f = cc
 pub below_more : (i n m : ℕ) → n ≤ m → nat_lt i n ≡ true → nat_lt i m ≡ true
 below_more i n m le h = let lt : i < n = ltb-true i n h in lt-ltb i m (omega arith)
 
+-- maps that agree where the test holds agree on a list of whose elements it holds
+pub map_where : {A B : Type 0} (f g : A → B) (k : A → Bool) → ((x : A) → k x ≡ true → f x ≡ g x)
+  → (xs : List A) → list_all k xs ≡ true → map f xs ≡ map g xs
+map_where f g k h [] e = refl
+map_where f g k h (x ∷ xs) e =
+    let one : f x ≡ g x = h x (and_left _ _ e) in
+    let rest : map f xs ≡ map g xs = map_where f g k h xs (and_right _ _ e) in
+    cc
+
+pub list_all-weaker : {A : Type 0} (k k' : A → Bool) → ((x : A) → k x ≡ true → k' x ≡ true)
+  → (xs : List A) → list_all k xs ≡ true → list_all k' xs ≡ true
+list_all-weaker k k' h [] e = refl
+list_all-weaker k k' h (x ∷ xs) e = and_both (h x (and_left _ _ e)) (list_all-weaker k k' h xs (and_right _ _ e))
+
 -- a type keeps its shape
 abbrev pub KeepsTy : List (List ℕ) → List (List ℕ) → Ty → Type 0
 KeepsTy names more t = ty_known (length names) t ≡ true → ty_shape (names ++ more) t ≡ ty_shape names t
@@ -35,8 +49,8 @@ keep_tys : (names more : List (List ℕ)) (ts : List ((t : Ty) × KeepsTy names 
   → map (ty_shape (names ++ more)) (map (λ e. e.0) ts) ≡ map (ty_shape names) (map (λ e. e.0) ts)
 keep_tys names more [] h = refl
 keep_tys names more (t ∷ ts) h =
-    let one = t.1 (and_left _ _ h) in
-    let rest = keep_tys names more ts (and_right _ _ h) in
+    let one : ty_shape (names ++ more) t.0 ≡ ty_shape names t.0 = t.1 (and_left _ _ h) in
+    let rest : map (ty_shape (names ++ more)) (map (λ e. e.0) ts) ≡ map (ty_shape names) (map (λ e. e.0) ts) = keep_tys names more ts (and_right _ _ h) in
     cc
 
 keep_ty_at : (names more : List (List ℕ)) (y : ty.Ty-F ((t : Ty) × KeepsTy names more t))

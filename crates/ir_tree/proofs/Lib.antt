@@ -1,3 +1,4 @@
 mod Keys
 pub mod Table
 pub mod Grows
+pub mod GrowsConst
