@@ -2,3 +2,4 @@ mod Keys
 pub mod Table
 pub mod Grows
 pub mod GrowsConst
+pub mod GrowsModule
