@@ -26,16 +26,16 @@ use Rattle.ir_tree.proofs.Grows.{and_left, and_right, and_both, below_more, map_
 use Rattle.ir_tree.proofs.GrowsConst.{const_shape-append, const_known-more}
 
 pub name_shape-append : (names more : List (List ℕ)) (id : NameId) → name_known (length names) id ≡ true
-  → name_shape (names ++ more) id ≡ name_shape names id
+    → name_shape (names ++ more) id ≡ name_shape names id
 name_shape-append names more id h = text_of-append names more id.0 (ltb-true id.0 (length names) h)
 
 pub result_shape-append : (names more : List (List ℕ)) (o : Option NameId) → result_known (length names) o ≡ true
-  → option_map (name_shape (names ++ more)) o ≡ option_map (name_shape names) o
+    → option_map (name_shape (names ++ more)) o ≡ option_map (name_shape names) o
 result_shape-append names more None h = refl
 result_shape-append names more (Some id) h = ap Some (name_shape-append names more id h)
 
 pub val_shape-append : (names more : List (List ℕ)) (v : Val) → val_known (length names) v ≡ true
-  → val_shape (names ++ more) v ≡ val_shape names v
+    → val_shape (names ++ more) v ≡ val_shape names v
 val_shape-append names more (Local id) h = ap local (name_shape-append names more id h)
 val_shape-append names more (Fixed c) h = ap fixed (const_shape-append names more c h)
 
@@ -51,7 +51,7 @@ val_known-more n m le (Local id) h = below_more id.0 n m le h
 val_known-more n m le (Fixed c) h = const_known-more n m le c h
 
 pub ty_val_shape-append : (names more : List (List ℕ)) (x : TyVal) → ty_val_known (length names) x ≡ true
-  → ty_val_shape (names ++ more) x ≡ ty_val_shape names x
+    → ty_val_shape (names ++ more) x ≡ ty_val_shape names x
 ty_val_shape-append names more x h =
     let part0 : ty_shape (names ++ more) x.ty ≡ ty_shape names x.ty = ty_shape-append names more x.ty (and_left _ _ h) in
     let part1 : val_shape (names ++ more) x.val ≡ val_shape names x.val = val_shape-append names more x.val (and_right _ _ h) in
@@ -61,7 +61,7 @@ pub ty_val_known-more : (n m : ℕ) → n ≤ m → (x : TyVal) → ty_val_known
 ty_val_known-more n m le x h = (and_both (ty_known-more n m le x.ty (and_left _ _ h)) (val_known-more n m le x.val (and_right _ _ h)))
 
 pub phi_in_shape-append : (names more : List (List ℕ)) (x : PhiIn) → phi_in_known (length names) x ≡ true
-  → phi_in_shape (names ++ more) x ≡ phi_in_shape names x
+    → phi_in_shape (names ++ more) x ≡ phi_in_shape names x
 phi_in_shape-append names more x h =
     let part0 : val_shape (names ++ more) x.val ≡ val_shape names x.val = val_shape-append names more x.val (and_left _ _ h) in
     let part1 : name_shape (names ++ more) x.from ≡ name_shape names x.from = name_shape-append names more x.from (and_right _ _ h) in
@@ -71,7 +71,7 @@ pub phi_in_known-more : (n m : ℕ) → n ≤ m → (x : PhiIn) → phi_in_known
 phi_in_known-more n m le x h = (and_both (val_known-more n m le x.val (and_left _ _ h)) (name_known-more n m le x.from (and_right _ _ h)))
 
 pub case_shape-append : (names more : List (List ℕ)) (x : Case) → case_known (length names) x ≡ true
-  → case_shape (names ++ more) x ≡ case_shape names x
+    → case_shape (names ++ more) x ≡ case_shape names x
 case_shape-append names more x h =
     let part0 : ty_shape (names ++ more) x.ty ≡ ty_shape names x.ty = ty_shape-append names more x.ty (and_left _ _ h) in
     let part1 : name_shape (names ++ more) x.to ≡ name_shape names x.to = name_shape-append names more x.to (and_right _ _ h) in
@@ -81,7 +81,7 @@ pub case_known-more : (n m : ℕ) → n ≤ m → (x : Case) → case_known n x 
 case_known-more n m le x h = (and_both (ty_known-more n m le x.ty (and_left _ _ h)) (name_known-more n m le x.to (and_right _ _ h)))
 
 pub body_shape-append : (names more : List (List ℕ)) (b : Body) → body_known (length names) b ≡ true
-  → body_shape (names ++ more) b ≡ body_shape names b
+    → body_shape (names ++ more) b ≡ body_shape names b
 body_shape-append names more (body.Phi ty v) h =
     let part0 : ty_shape (names ++ more) ty ≡ ty_shape names ty = ty_shape-append names more ty (and_left _ _ h) in
     let part1 : map (phi_in_shape (names ++ more)) v.items ≡ map (phi_in_shape names) v.items = map_where (phi_in_shape (names ++ more)) (phi_in_shape names) (phi_in_known (length names)) (phi_in_shape-append names more) v.items (and_right _ _ h) in
@@ -170,7 +170,7 @@ body_known-more n m le (body.Ret x) h = (ty_val_known-more n m le x h)
 body_known-more n m le body.Unreachable h = refl
 
 pub inst_shape-append : (names more : List (List ℕ)) (x : Inst) → inst_known (length names) x ≡ true
-  → inst_shape (names ++ more) x ≡ inst_shape names x
+    → inst_shape (names ++ more) x ≡ inst_shape names x
 inst_shape-append names more x h =
     let part0 : option_map (name_shape (names ++ more)) x.result ≡ option_map (name_shape names) x.result = result_shape-append names more x.result (and_left _ _ h) in
     let part1 : body_shape (names ++ more) x.body ≡ body_shape names x.body = body_shape-append names more x.body (and_right _ _ h) in
@@ -180,7 +180,7 @@ pub inst_known-more : (n m : ℕ) → n ≤ m → (x : Inst) → inst_known n x 
 inst_known-more n m le x h = (and_both (result_known-more n m le x.result (and_left _ _ h)) (body_known-more n m le x.body (and_right _ _ h)))
 
 pub block_shape-append : (names more : List (List ℕ)) (x : Block) → block_known (length names) x ≡ true
-  → block_shape (names ++ more) x ≡ block_shape names x
+    → block_shape (names ++ more) x ≡ block_shape names x
 block_shape-append names more x h =
     let part0 : name_shape (names ++ more) x.name ≡ name_shape names x.name = name_shape-append names more x.name (and_left _ _ h) in
     let part1 : map (inst_shape (names ++ more)) x.insts.items ≡ map (inst_shape names) x.insts.items = map_where (inst_shape (names ++ more)) (inst_shape names) (inst_known (length names)) (inst_shape-append names more) x.insts.items (and_right _ _ h) in
@@ -190,7 +190,7 @@ pub block_known-more : (n m : ℕ) → n ≤ m → (x : Block) → block_known n
 block_known-more n m le x h = (and_both (name_known-more n m le x.name (and_left _ _ h)) (list_all-weaker (inst_known n) (inst_known m) (inst_known-more n m le) x.insts.items (and_right _ _ h)))
 
 pub param_shape-append : (names more : List (List ℕ)) (x : Param) → param_known (length names) x ≡ true
-  → param_shape (names ++ more) x ≡ param_shape names x
+    → param_shape (names ++ more) x ≡ param_shape names x
 param_shape-append names more x h =
     let part0 : ty_shape (names ++ more) x.ty ≡ ty_shape names x.ty = ty_shape-append names more x.ty (and_left _ _ h) in
     let part1 : option_map (name_shape (names ++ more)) x.name ≡ option_map (name_shape names) x.name = result_shape-append names more x.name (and_right _ _ h) in
@@ -200,7 +200,7 @@ pub param_known-more : (n m : ℕ) → n ≤ m → (x : Param) → param_known n
 param_known-more n m le x h = (and_both (ty_known-more n m le x.ty (and_left _ _ h)) (result_known-more n m le x.name (and_right _ _ h)))
 
 pub function_shape-append : (names more : List (List ℕ)) (x : Function) → function_known (length names) x ≡ true
-  → function_shape (names ++ more) x ≡ function_shape names x
+    → function_shape (names ++ more) x ≡ function_shape names x
 function_shape-append names more x h =
     let part0 : name_shape (names ++ more) x.name ≡ name_shape names x.name = name_shape-append names more x.name (and_left _ _ (and_left _ _ (and_left _ _ h))) in
     let part1 : ty_shape (names ++ more) x.ret ≡ ty_shape names x.ret = ty_shape-append names more x.ret (and_right _ _ (and_left _ _ (and_left _ _ h))) in
@@ -212,7 +212,7 @@ pub function_known-more : (n m : ℕ) → n ≤ m → (x : Function) → functio
 function_known-more n m le x h = (and_both (and_both (and_both (name_known-more n m le x.name (and_left _ _ (and_left _ _ (and_left _ _ h)))) (ty_known-more n m le x.ret (and_right _ _ (and_left _ _ (and_left _ _ h))))) (list_all-weaker (param_known n) (param_known m) (param_known-more n m le) x.params.items (and_right _ _ (and_left _ _ h)))) (list_all-weaker (block_known n) (block_known m) (block_known-more n m le) x.blocks.items (and_right _ _ h)))
 
 pub global_shape-append : (names more : List (List ℕ)) (x : GlobalItem) → global_known (length names) x ≡ true
-  → global_shape (names ++ more) x ≡ global_shape names x
+    → global_shape (names ++ more) x ≡ global_shape names x
 global_shape-append names more x h =
     let part0 : name_shape (names ++ more) x.name ≡ name_shape names x.name = name_shape-append names more x.name (and_left _ _ (and_left _ _ h)) in
     let part1 : ty_shape (names ++ more) x.ty ≡ ty_shape names x.ty = ty_shape-append names more x.ty (and_right _ _ (and_left _ _ h)) in
@@ -223,7 +223,7 @@ pub global_known-more : (n m : ℕ) → n ≤ m → (x : GlobalItem) → global_
 global_known-more n m le x h = (and_both (and_both (name_known-more n m le x.name (and_left _ _ (and_left _ _ h))) (ty_known-more n m le x.ty (and_right _ _ (and_left _ _ h)))) (const_known-more n m le x.init (and_right _ _ h)))
 
 pub declare_shape-append : (names more : List (List ℕ)) (x : Declare) → declare_known (length names) x ≡ true
-  → declare_shape (names ++ more) x ≡ declare_shape names x
+    → declare_shape (names ++ more) x ≡ declare_shape names x
 declare_shape-append names more x h =
     let part0 : name_shape (names ++ more) x.name ≡ name_shape names x.name = name_shape-append names more x.name (and_left _ _ (and_left _ _ h)) in
     let part1 : ty_shape (names ++ more) x.ret ≡ ty_shape names x.ret = ty_shape-append names more x.ret (and_right _ _ (and_left _ _ h)) in
@@ -234,7 +234,7 @@ pub declare_known-more : (n m : ℕ) → n ≤ m → (x : Declare) → declare_k
 declare_known-more n m le x h = (and_both (and_both (name_known-more n m le x.name (and_left _ _ (and_left _ _ h))) (ty_known-more n m le x.ret (and_right _ _ (and_left _ _ h)))) (list_all-weaker (ty_known n) (ty_known m) (ty_known-more n m le) x.params.items (and_right _ _ h)))
 
 pub named_ty_shape-append : (names more : List (List ℕ)) (x : NamedTy) → named_ty_known (length names) x ≡ true
-  → named_ty_shape (names ++ more) x ≡ named_ty_shape names x
+    → named_ty_shape (names ++ more) x ≡ named_ty_shape names x
 named_ty_shape-append names more x h =
     let part0 : name_shape (names ++ more) x.name ≡ name_shape names x.name = name_shape-append names more x.name (and_left _ _ h) in
     let part1 : ty_shape (names ++ more) x.ty ≡ ty_shape names x.ty = ty_shape-append names more x.ty (and_right _ _ h) in
@@ -245,7 +245,7 @@ named_ty_known-more n m le x h = (and_both (name_known-more n m le x.name (and_l
 
 -- a module whose names are known under a table has the same shape under a longer one
 pub shape_under-append : (names more : List (List ℕ)) (m : Module) → items_known (length names) m ≡ true
-  → shape_under (names ++ more) m ≡ shape_under names m
+    → shape_under (names ++ more) m ≡ shape_under names m
 shape_under-append names more m h =
     let part0 : map (named_ty_shape (names ++ more)) m.types.items ≡ map (named_ty_shape names) m.types.items = map_where (named_ty_shape (names ++ more)) (named_ty_shape names) (named_ty_known (length names)) (named_ty_shape-append names more) m.types.items (and_left _ _ (and_left _ _ (and_left _ _ h))) in
     let part1 : map (global_shape (names ++ more)) m.globals.items ≡ map (global_shape names) m.globals.items = map_where (global_shape (names ++ more)) (global_shape names) (global_known (length names)) (global_shape-append names more) m.globals.items (and_right _ _ (and_left _ _ (and_left _ _ h))) in

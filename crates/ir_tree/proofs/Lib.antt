@@ -3,3 +3,4 @@ pub mod Table
 pub mod Grows
 pub mod GrowsConst
 pub mod GrowsModule
+pub mod Rows

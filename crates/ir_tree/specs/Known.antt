@@ -32,7 +32,7 @@ ty_known_step count (ty.Named id) = nat_lt id.0 count
 ty_known_step count _ = true
 
 -- the names of a type are below the count
-unfoldable pub ty_known : ℕ → Ty → Bool
+abbrev pub ty_known : ℕ → Ty → Bool
 ty_known count = fold-Ty Bool (ty_known_step count)
 
 abbrev pub const_known_step : ℕ → constant.Const-F Bool Bool → Bool
@@ -46,11 +46,11 @@ abbrev pub typed_known_step : ℕ → constant.Typed-F Bool Bool → Bool
 typed_known_step count v = ty_known count v.ty && v.value
 
 -- the names of a constant are below the count
-unfoldable pub const_known : ℕ → Const → Bool
+abbrev pub const_known : ℕ → Const → Bool
 const_known count = fold-Const Bool Bool (const_known_step count) (typed_known_step count)
 
 -- the names of a constant and of its type are below the count
-unfoldable pub typed_known : ℕ → Typed → Bool
+abbrev pub typed_known : ℕ → Typed → Bool
 typed_known count = fold-Typed Bool Bool (const_known_step count) (typed_known_step count)
 
 abbrev pub name_known : ℕ → NameId → Bool

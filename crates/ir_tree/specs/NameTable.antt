@@ -1,5 +1,5 @@
 -- Names by number: a table is the list of distinct names, in the order in which they were first given.
-use Rattle.std.specs.Prelude.{ℕ, Bool, List, [], ◌∷◌, ◌++◌, slice_get, unwrap_or, if◌then◌else◌}
+use Rattle.std.specs.Prelude.{◌≡◌, ℕ, Bool, List, [], ◌∷◌, ◌++◌, slice_get, unwrap_or, length, nat_lt, true, if◌then◌else◌}
 use Rattle.std.specs.List.{list_any, position_or_len}
 use Rattle.std.specs.Str.{bytes_eq}
 
@@ -14,3 +14,12 @@ with_name names name = if list_any (bytes_eq name) names then names else names +
 -- the name of a number; a number that isn't in the table has the empty one
 abbrev pub text_of : List (List ℕ) → ℕ → List ℕ
 text_of names id = unwrap_or (slice_get names id) []
+
+-- the number is that of a name of the table
+abbrev pub IsKnown : List (List ℕ) → ℕ → Type 0
+IsKnown names id = nat_lt id (length names) ≡ true
+
+-- the new table has the names of the old one first, in order, under the same numbers
+pub record Grows (old new : List (List ℕ)) : Type 0 where
+  pub more : List (List ℕ)
+  pub kept : new ≡ old ++ more

@@ -35,7 +35,7 @@ ty_step names (ty.Struct v packed) = structure (ty_row v.items) packed
 ty_step names (ty.Named id) = named (text_of names id.0)
 
 -- a type's shape
-unfoldable pub ty_shape : List (List ℕ) → Ty → TyShape
+abbrev pub ty_shape : List (List ℕ) → Ty → TyShape
 ty_shape names = fold-Ty TyShape (ty_step names)
 
 abbrev pub const_step : List (List ℕ) → constant.Const-F ConstShape TypedShape → ConstShape
@@ -55,11 +55,11 @@ abbrev pub typed_step : List (List ℕ) → constant.Typed-F ConstShape TypedSha
 typed_step names v = typed (ty_shape names v.ty) v.value
 
 -- a constant's shape
-unfoldable pub const_shape : List (List ℕ) → Const → ConstShape
+abbrev pub const_shape : List (List ℕ) → Const → ConstShape
 const_shape names = fold-Const ConstShape TypedShape (const_step names) (typed_step names)
 
 -- the shape of a constant with its type
-unfoldable pub typed_shape : List (List ℕ) → Typed → TypedShape
+abbrev pub typed_shape : List (List ℕ) → Typed → TypedShape
 typed_shape names = fold-Typed ConstShape TypedShape (const_step names) (typed_step names)
 
 -- the name of a number
@@ -112,7 +112,7 @@ function_shape names x = record {
   name = name_shape names x.name;
   ret = ty_shape names x.ret;
   params = map (param_shape names) x.params.items;
-  blocks = map (block_shape names) x.blocks.items
+  blocks = map (block_shape names) x.blocks.items;
 }
 
 abbrev pub global_shape : List (List ℕ) → GlobalItem → GlobalShape
@@ -120,14 +120,14 @@ global_shape names x = record {
   name = name_shape names x.name;
   constant = x.constant;
   ty = ty_shape names x.ty;
-  init = const_shape names x.init
+  init = const_shape names x.init;
 }
 
 abbrev pub declare_shape : List (List ℕ) → Declare → DeclareShape
 declare_shape names x = record {
   name = name_shape names x.name;
   ret = ty_shape names x.ret;
-  params = map (ty_shape names) x.params.items
+  params = map (ty_shape names) x.params.items;
 }
 
 abbrev pub named_ty_shape : List (List ℕ) → NamedTy → NamedTyShape
@@ -139,7 +139,7 @@ shape_under names m = record {
   types = map (named_ty_shape names) m.types.items;
   globals = map (global_shape names) m.globals.items;
   declares = map (declare_shape names) m.declares.items;
-  functions = map (function_shape names) m.functions.items
+  functions = map (function_shape names) m.functions.items;
 }
 
 -- a module's shape

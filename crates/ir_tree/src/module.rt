@@ -3,7 +3,7 @@ use crate::names::{NameId, Names};
 use crate::types::{Const, Ty};
 
 /// An operand: a value of the function, or a constant.
-#[derive(Debug, Drop)]
+#[derive(Debug, PartialEq, Eq, Drop)]
 pub enum Val {
     /// `%x`
     Local(NameId),

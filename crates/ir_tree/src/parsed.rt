@@ -29,8 +29,6 @@ pub struct Parsed {
     ghost globals_spotted: { length spots.globals.items ≡ length «module».globals.items },
     ghost declares_spotted: { length spots.declares.items ≡ length «module».declares.items },
     ghost functions_spotted: { length spots.functions.items ≡ length «module».functions.items },
-    ghost insts_spotted: {
-        map (λ f. map (λ b. length b.items) f.items) spots.insts.items
-        ≡ map (λ f. map (λ b. length b.insts.items) f.blocks.items) «module».functions.items
-    },
+    ghost insts_spotted: { map (λ f. map (λ b. length b.items) f.items) spots.insts.items
+        ≡ map (λ f. map (λ b. length b.insts.items) f.blocks.items) «module».functions.items },
 }

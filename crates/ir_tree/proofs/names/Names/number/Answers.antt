@@ -1,8 +1,8 @@
 use Rattle.std.proofs.Common.{◌≡◌, ℕ, List, map, sym, ap, subst, ◌∙◌, slice_get, Some}
 use Rattle.std.specs.Str.{bytes_eq}
-use Rattle.ir_tree.specs.NameTable.{number_of, with_name}
+use Rattle.ir_tree.specs.NameTable.{number_of, with_name, text_of, IsKnown, Grows}
 use Rattle.ir_tree.proofs.Keys.{place_found, place_is, keys_kept, keys_after}
-use Rattle.ir_tree.proofs.Table.{text-with_name}
+use Rattle.ir_tree.proofs.Table.{text_of-with_name, known_with_name, grows_same, grows_with_name}
 use Rattle.ir_tree.proofs.names.Names.number.Goals as goal
 
 pub returns-in-Some-clause-number : goal.returns-in-Some-clause-number
@@ -17,8 +17,18 @@ pub returns-in-Some-clause-text : goal.returns-in-Some-clause-text
 returns-in-Some-clause-text c =
     rw (returns-in-Some-clause-number c)
     (let same = returns-in-Some-clause-names c in
-      subst (λ names. slice_get names (number_of c.args.self.now c.args.name.now) ≡ Some c.args.name.now) (sym same)
-      (text-with_name c.args.self.now c.args.name.now))
+    subst (λ names. text_of names (number_of c.args.self.now c.args.name.now) ≡ c.args.name.now) (sym same)
+    (text_of-with_name c.args.self.now c.args.name.now))
+
+pub returns-in-Some-clause-known : goal.returns-in-Some-clause-known
+returns-in-Some-clause-known c =
+    rw (returns-in-Some-clause-number c)
+    (let same = returns-in-Some-clause-names c in
+    subst (λ names. IsKnown names (number_of c.args.self.now c.args.name.now)) (sym same)
+    (known_with_name c.args.self.now c.args.name.now))
+
+pub returns-in-Some-clause-grows : goal.returns-in-Some-clause-grows
+returns-in-Some-clause-grows c = grows_same _
 
 pub returns-clause-number : goal.returns-clause-number
 returns-clause-number c =
@@ -32,4 +42,11 @@ returns-clause-names c =
 
 pub returns-clause-text : goal.returns-clause-text
 returns-clause-text c =
-    rw (returns-clause-number c, returns-clause-names c) (text-with_name c.args.self.now c.args.name.now)
+    rw (returns-clause-number c, returns-clause-names c) (text_of-with_name c.args.self.now c.args.name.now)
+
+pub returns-clause-known : goal.returns-clause-known
+returns-clause-known c =
+    rw (returns-clause-number c, returns-clause-names c) (known_with_name c.args.self.now c.args.name.now)
+
+pub returns-clause-grows : goal.returns-clause-grows
+returns-clause-grows c = subst (Grows c.args.self.now) (sym (returns-clause-names c)) (grows_with_name c.args.self.now c.args.name.now)
