@@ -1,14 +1,13 @@
 -- A longer table of names keeps each shape, and what is known stays known.
 use Rattle.std.proofs.lemmas.Bool.{lt-ltb}
-use Rattle.std.proofs.Common.{◌≡◌, ℕ, ◌+◌, ◌<◌, ◌≤◌, Bool, true, false, List, [], ◌∷◌, ◌++◌, length, map, Option, None, Some, refl, sym, ◌∙◌, ap, subst, arith, length-append, ◌&&◌, nat_lt, ltb-true}
+use Rattle.std.proofs.Common.{◌≡◌, ℕ, ◌<◌, ◌≤◌, Bool, true, false, List, [], ◌∷◌, ◌++◌, length, map, refl, sym, ◌∙◌, ap, subst, arith, ◌&&◌, nat_lt, ltb-true}
 use Rattle.std.specs.List.{list_all}
-use Rattle.ir_tree.specs.NameTable.{text_of}
-use Rattle.ir_tree.specs.Shape.{TyShape, integer, pointer, void, array, structure, named, ty_row}
+use Rattle.ir_tree.specs.Shape.{TyShape, array, structure, named, ty_row}
 use Rattle.ir_tree.specs.ShapeOf.{ty_step, ty_shape}
 use Rattle.ir_tree.specs.Known.{ty_known_step, ty_known}
 use Rattle.ir_tree.specs.declared.types.Ty.{Ty}
 use Rattle.ir_tree.specs.declared.types.Ty.TheOpen as ty
-use Rattle.ir_tree.specs.declared.types.Ty.TheFolds.{fold-Ty, fold-roll-Ty, ind-Ty, map-Ty}
+use Rattle.ir_tree.specs.declared.types.Ty.TheFolds.{fold-roll-Ty, ind-Ty, map-Ty}
 use Rattle.ir_tree.proofs.Table.{text_of-append}
 
 pub and_left : (a b : Bool) → (a && b) ≡ true → a ≡ true

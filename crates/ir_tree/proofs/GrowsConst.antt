@@ -1,12 +1,12 @@
 -- A longer table of names keeps the shape of each constant.
-use Rattle.std.proofs.Common.{◌≡◌, ℕ, ◌≤◌, Bool, true, false, List, [], ◌∷◌, ◌++◌, length, map, refl, sym, ◌∙◌, ap, subst, ltb-true, ◌&&◌}
+use Rattle.std.proofs.Common.{◌≡◌, ℕ, ◌≤◌, Bool, true, List, [], ◌∷◌, ◌++◌, length, map, refl, sym, ◌∙◌, ap, subst, ltb-true}
 use Rattle.std.specs.List.{list_all}
-use Rattle.ir_tree.specs.Shape.{TyShape, ConstShape, TypedShape, typed, elements, fields, global, address, typed_row}
+use Rattle.ir_tree.specs.Shape.{ConstShape, TypedShape, elements, fields, global, typed_row}
 use Rattle.ir_tree.specs.ShapeOf.{ty_shape, const_step, typed_step, const_shape, typed_shape}
-use Rattle.ir_tree.specs.Known.{ty_known, const_known_step, typed_known_step, const_known, typed_known}
+use Rattle.ir_tree.specs.Known.{const_known_step, typed_known_step, const_known, typed_known}
 use Rattle.ir_tree.specs.declared.types.Const.{Const}
 use Rattle.ir_tree.specs.declared.types.Const.TheOpen as constant
-use Rattle.ir_tree.specs.declared.types.Const.TheFolds.{fold-Const, fold-Typed, fold-roll-Const, fold-roll-Typed, ind-Const, ind-Typed, map-Const, map-Typed}
+use Rattle.ir_tree.specs.declared.types.Const.TheFolds.{fold-roll-Const, fold-roll-Typed, ind-Const, ind-Typed, map-Const, map-Typed}
 use Rattle.ir_tree.specs.declared.types.Typed.{Typed}
 use Rattle.ir_tree.proofs.Table.{text_of-append}
 use Rattle.ir_tree.proofs.Grows.{and_left, and_right, and_both, below_more, ty_shape-append, ty_known-more}

@@ -1,10 +1,9 @@
 -- A longer table of names keeps the shape of each part of a module, and what is known of it stays known.
-use Rattle.std.proofs.Common.{◌≡◌, ℕ, ◌≤◌, Bool, true, false, List, [], ◌∷◌, ◌++◌, length, map, Option, None, Some, refl, sym, ◌∙◌, ap, ltb-true, ◌&&◌}
+use Rattle.std.proofs.Common.{◌≡◌, ℕ, ◌≤◌, true, List, ◌++◌, length, map, Option, None, Some, refl, ap, ltb-true}
 use Rattle.std.specs.Prelude.{option_map}
-use Rattle.std.specs.List.{list_all}
-use Rattle.ir_tree.specs.Shape.{TyShape, ConstShape, ValShape, local, fixed, TyValShape, PhiInShape, CaseShape, BodyShape, phi, jump, return_value}
+use Rattle.ir_tree.specs.Shape.{local, fixed}
 use Rattle.ir_tree.specs.ShapeOf.{ty_shape, const_shape, name_shape, val_shape, ty_val_shape, phi_in_shape, case_shape, body_shape, inst_shape, block_shape, param_shape, function_shape, global_shape, declare_shape, named_ty_shape, shape_under}
-use Rattle.ir_tree.specs.Known.{ty_known, const_known, name_known, result_known, val_known, ty_val_known, phi_in_known, case_known, body_known, inst_known, block_known, param_known, function_known, global_known, declare_known, named_ty_known, items_known}
+use Rattle.ir_tree.specs.Known.{ty_known, name_known, result_known, val_known, ty_val_known, phi_in_known, case_known, body_known, inst_known, block_known, param_known, function_known, global_known, declare_known, named_ty_known, items_known}
 use Rattle.ir_tree.specs.declared.names.NameId.{NameId}
 use Rattle.ir_tree.specs.declared.module.Val.{Val}
 use Rattle.ir_tree.specs.declared.module.TyVal.{TyVal}

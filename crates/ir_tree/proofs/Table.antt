@@ -1,7 +1,7 @@
 -- Laws of tables of names.
-use Rattle.std.proofs.Common.{◌≡◌, ℕ, suc, ◌+◌, ◌<◌, ◌≤◌, Bool, true, false, List, [], ◌∷◌, ◌++◌, length, Option, None, Some, refl, sym, ◌∙◌, ap, subst, arith, slice_get, add_comm, rules, zero, ◌||◌, cond, nat_lt}
+use Rattle.std.proofs.Common.{◌≡◌, ℕ, suc, ◌+◌, ◌<◌, Bool, true, false, List, [], ◌∷◌, ◌++◌, length, Some, refl, sym, ◌∙◌, ap, arith, slice_get, zero, ◌||◌, cond, nat_lt}
 use Rattle.std.specs.Prelude.{if◌then◌else◌, unwrap_or, not}
-use Rattle.std.specs.List.{position_or_len, list_any, IsDistinct, AllByRecursion}
+use Rattle.std.specs.List.{list_any, IsDistinct, AllByRecursion}
 use Rattle.std.specs.Str.{bytes_eq}
 use Rattle.std.proofs.lemmas.Bool.{lt-ltb}
 use Rattle.std.proofs.lemmas.List.{append_assoc, append-nil}

@@ -1,5 +1,5 @@
 -- That each number of a name is below the count of names.
-use Rattle.std.specs.Prelude.{ℕ, Bool, true, ◌&&◌, nat_lt, List, length, Option, None, Some}
+use Rattle.std.specs.Prelude.{ℕ, Bool, true, ◌&&◌, nat_lt, length, Option, None, Some}
 use Rattle.std.specs.List.{list_all}
 use Rattle.ir_tree.specs.declared.types.Ty.{Ty}
 use Rattle.ir_tree.specs.declared.types.Ty.TheOpen as ty

@@ -1,4 +1,4 @@
-use Rattle.std.proofs.Common.{◌≡◌, ℕ, List, map, sym, ap, subst, ◌∙◌, slice_get, Some}
+use Rattle.std.proofs.Common.{◌≡◌, map, sym, subst}
 use Rattle.std.specs.Str.{bytes_eq}
 use Rattle.ir_tree.specs.NameTable.{number_of, with_name, text_of, IsKnown, Grows}
 use Rattle.ir_tree.proofs.Keys.{place_found, place_is, keys_kept, keys_after}
