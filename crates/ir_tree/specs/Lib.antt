@@ -1,0 +1,4 @@
+pub mod NameTable
+pub mod Shape
+pub mod ShapeOf
+pub mod Known

@@ -1,0 +1,123 @@
+//! The names of a module, by number.
+ghost use Rattle.std.specs.Prelude.{◌≡◌, ◌+◌, ◌^◌, ◌<◌, ◌↔◌, [], List, ℕ, length, map, slice_get, option_copied, IsSome, IsTrue, IfOk, OnOk, OnErr};
+ghost use Rattle.std.specs.List.{IsDistinct};
+ghost use Rattle.std.specs.Str.{bytes_eq};
+ghost use Rattle.ir_tree.specs.NameTable.{number_of, with_name, text_of, Grows, IsKnown};
+
+use indexmap::IndexSet;
+use std::alloc::{AllocError, Global};
+use std::marker::Model;
+
+/// The number of a name in a [`Names`].
+#[derive(Clone, Copy, Debug, PartialEq, Eq)]
+pub struct NameId(pub u32);
+
+/// Distinct names, numbered from 0 in the order in which they were first given.
+#[derive(Drop)]
+pub struct Names {
+    set: IndexSet<Vec<u8>>,
+}
+
+impl Model for Names {
+    ghost use Rattle.std.specs.Prelude.{List, ℕ, map};
+
+    ghost Value = { List (List ℕ) };
+
+    ghost view = { λ n. map (λ v. v.items) n.set.keys };
+}
+
+impl Names {
+    /// No names.
+    pub fn new(alloc: Global) -> Names
+        ensures { result ≡ [] }
+    {
+        Names {
+            set: IndexSet::new(alloc),
+        }
+    }
+
+    /// How many names there are.
+    pub fn len(&self) -> usize
+        ensures len { result ≡ length self.now }
+        ensures distinct { IsDistinct bytes_eq self.now }
+    {
+        self.set.len()
+    }
+
+    /// Whether there are no names.
+    pub fn is_empty(&self) -> bool
+        ensures { IsTrue result ↔ (self.now ≡ []) }
+    {
+        self.set.is_empty()
+    }
+
+    /// The number of a name: its place in the order in which distinct names were first given.
+    pub fn number(&mut self, name: &[u8]) -> Result<NameId, AllocError>
+        requires { length self.old < 2 ^ 32 }
+        ensures number { IfOk result (λ id. id.0 ≡ number_of self.old name.now) }
+        ensures text { IfOk result (λ id. text_of self.new id.0 ≡ name.now) }
+        ensures known { IfOk result (λ id. IsKnown self.new id.0) }
+        ensures names { OnOk result (self.new ≡ with_name self.old name.now) }
+        ensures grows { Grows self.old self.new }
+        ensures err { OnErr result (self.new ≡ self.old) }
+    {
+        if let Some(index) = self.set.get_index_of(name) {
+            return Ok(NameId(index as u32));
+        }
+        let owned = Vec::from_slice(*self.set.allocator(), name)?;
+        let (index, _) = self.set.insert_full(owned)?;
+        Ok(NameId(index as u32))
+    }
+
+    /// The name of a number, or `None` where the number isn't below the count of names.
+    pub fn text(&self, id: NameId) -> Option<&[u8]>
+        ensures text { option_copied result ≡ slice_get self.now id.0 }
+        ensures found { IsSome result ↔ (id.0 < length self.now) }
+    {
+        self.set
+            .get_index(id.0 as usize)
+            .map(|name| name.as_slice())
+    }
+}
+
+#[cfg(test)]
+mod tests {
+    use super::*;
+    use std::process::Abort;
+    use std::test::Fail;
+
+    fn number(rt: &impl Abort, names: &mut Names, name: &[u8]) -> Result<u32, Fail> {
+        assert!(rt; names.len() < 1 << 32);
+        Ok(names.number(name)?.0)
+    }
+
+    #[test]
+    fn numbers_names(rt: HostRuntime) -> Result<(), Fail> {
+        let mut names = Names::new(rt.alloc());
+        assert!(rt; names.is_empty());
+        for (name, want) in [("x", 0), ("", 1), ("y", 2), ("x", 0), ("y ", 3), ("", 1)] {
+            let id = number(&rt, &mut names, name.as_bytes())?;
+            assert_eq!(rt; id, want, "at {name:?}");
+        }
+        assert_eq!(rt; names.len(), 4);
+        for (id, want) in [
+            (0, Some("x")),
+            (1, Some("")),
+            (2, Some("y")),
+            (3, Some("y ")),
+            (4, None),
+        ] {
+            let is_right = names.text(NameId(id)) == want.map(|name| name.as_bytes());
+            assert!(rt; is_right, "at {id}");
+        }
+        for i in 0..10_000u32 {
+            let name = format!(in rt.alloc(); "name{i}")?;
+            let id = number(&rt, &mut names, name.as_bytes())?;
+            assert_eq!(rt; id, i + 4);
+        }
+        let last = number(&rt, &mut names, b"name9999")?;
+        assert_eq!(rt; last, 10_003);
+        assert_eq!(rt; names.len(), 10_004);
+        Ok(())
+    }
+}
