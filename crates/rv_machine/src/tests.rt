@@ -25,12 +25,22 @@ const UPPER: &[u32] = &[
     0x0000_0073,
 ];
 
+/// addi x10,x0,7; beq x10,x0,8; beq x10,x10,8; addi x10,x0,9; addi x17,x0,93; ecall
+const BRANCHES: &[u32] = &[
+    0x0070_0513,
+    0x0005_0463,
+    0x00a5_0463,
+    0x0090_0513,
+    0x05d0_0893,
+    0x0000_0073,
+];
+
 /// What a run came to: the status and the number of instructions, or the pc and the cause of a trap, or
 /// nothing where the steps were over.
 type Answer = Result<(u8, u64), Option<(u64, Cause)>>;
 
 /// A text, how many steps, a flip (instruction, register, bit), and what comes of it.
-const CASES: [(&[u32], u64, Option<(u64, u8, u8)>, Answer); 16] = [
+const CASES: [(&[u32], u64, Option<(u64, u8, u8)>, Answer); 17] = [
     (SEVEN, 3, None, Ok((7, 3))),
     (SEVEN, 9, None, Ok((7, 3))),
     (SEVEN, 3, Some((2, 10, 3)), Ok((15, 3))),
@@ -48,6 +58,7 @@ const CASES: [(&[u32], u64, Option<(u64, u8, u8)>, Answer); 16] = [
     (MINUS_ONE_AND_THREE, 9, None, Ok((2, 4))),
     (MINUS_ONE_AND_THREE, 9, Some((1, 10, 63)), Ok((2, 4))),
     (UPPER, 9, None, Ok((9, 5))),
+    (BRANCHES, 9, None, Ok((7, 5))),
     // the word 0; add x1,x2,x3; one instruction and then zeros; no word at all
     (&[0], 9, None, Err(Some((0x1_0000, Cause::Illegal)))),
     (
