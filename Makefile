@@ -3,13 +3,13 @@ program := crates/swiftr_cli/out/swiftr_cli
 
 .PHONY: build demo test clean
 
-# `rt run` proves all crates below, builds the program and runs it without words, which ends with 1.
+# `rt run` proves all crates below, builds the program and runs it, here without words, which prints `usage`.
 build:
-	@cd crates/swiftr_cli && { rt run -- > /dev/null || [ $$? -eq 1 ]; }
-	@test -x $(program) && touch $(program)
+	@mkdir -p build
+	@cd crates/swiftr_cli && rt run -- 2> ../../build/build.log | grep -qx usage || { tail -n 20 ../../build/build.log; false; }
+	@touch $(program)
 
 demo: build
-	@mkdir -p build
 	@echo '$$ cat examples/seven.ll'
 	@cat examples/seven.ll
 	@echo '$$ ./swiftr compile examples/seven.ll build/seven.elf'
