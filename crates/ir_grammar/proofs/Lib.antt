@@ -7,3 +7,4 @@ pub mod Reading
 pub mod Loops
 pub mod Answering
 pub mod SampleLaw
+mod SampleTree
