@@ -99,5 +99,5 @@ tree_step n r g =
 good_tree : (n : ℕ) → Good n tree (run_recursive run_tree_rule n) never
 good_tree = good_recursive tree_rule run_tree_rule (Number 0 ∷ []) (leaf 0) (inr (0, (Number 0, [], 0, refl, refl, (refl, refl)), refl)) starts_tree_rule regular_tree tree_step
 
-pub tree_reads : (ts : List Symbol) → Reads tree ts (run_recursive run_tree_rule (length ts) ts)
+tree_reads : (ts : List Symbol) → Reads tree ts (run_recursive run_tree_rule (length ts) ts)
 tree_reads ts = reads (good_tree (length ts)) ts (omega arith)
