@@ -5,3 +5,4 @@ pub mod Word
 pub mod Registers
 pub mod Opcodes
 pub mod Window
+pub mod Assembly

@@ -1,7 +1,8 @@
 //! The words of RV64I and the M extension (RISC-V Unprivileged ISA): each of the 63 instructions by its
-//! name and operands, its 32-bit word both ways, and the registers that it reads and writes.
+//! name and operands, its 32-bit word both ways, its assembly text, and the registers that it reads and writes.
 #![tactic(auto)]
 
+mod assembly;
 mod fields;
 mod forms;
 mod instruction;
@@ -11,5 +12,6 @@ mod table;
 mod tests;
 mod words;
 
+pub use assembly::text;
 pub use instruction::{Form, Rv};
 pub use words::{decode, encode, reads, words_are_distinct, writes};
