@@ -1,4 +1,6 @@
 pub mod Digits
+pub mod Dropped
+pub mod Escapes
 pub mod Floats
 pub mod Labels
 pub mod Integers
