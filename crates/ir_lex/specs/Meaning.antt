@@ -1,12 +1,10 @@
 -- What a token means: the bytes of its name, and what its word stands for.
-use Rattle.std.specs.Prelude.{ℕ, Bool, not, ◌+◌, ◌-◌, ◌*◌, ◌==◌, ◌||◌, ◌&&◌, if◌then◌else◌, nat_lt, zero, suc, List, [], ◌∷◌, length, take, drop, codes}
-use Rattle.std.specs.Str.{bytes_eq}
-use Rattle.std.specs.Bool.{nat_eq}
+use Rattle.std.specs.Prelude.{ℕ, Bool, ◌+◌, ◌-◌, ◌*◌, ◌==◌, ◌||◌, ◌&&◌, if◌then◌else◌, nat_lt, zero, suc, List, [], ◌∷◌, length, take, drop}
 use Rattle.ir_lex.specs.Lengths.{begins_by}
 use Rattle.ir_lex.specs.Words.{keyword_of}
 use Rattle.ir_lex.specs.declared.token.Token.{Token}
 use Rattle.ir_lex.specs.declared.token.Kind.{Kind}
-use Rattle.ir_lex.specs.declared.token.Kind.TheVariants.{Local, Global, CStr, Label, Str, Float, Int, Word, Meta, Hash, Punct}
+use Rattle.ir_lex.specs.declared.token.Kind.TheVariants.{Word}
 use Rattle.ir_lex.specs.declared.words.Keyword.{Keyword}
 use Rattle.ir_lex.specs.declared.words.Keyword.TheVariants.{Other}
 

@@ -10,7 +10,7 @@ use Rattle.ir_lex.specs.declared.error.LexError.{LexError}
 use Rattle.ir_lex.specs.declared.error.LexError.TheVariants.{Bad, Outside, OutOfMemory}
 use Rattle.ir_lex.specs.declared.token.Token.{Token}
 use Rattle.ir_lex.specs.declared.token.Kind.{Kind}
-use Rattle.ir_lex.specs.declared.token.Kind.TheVariants.{Local, Global, CStr, Label, Str, Float, Int, Word, Meta, Hash, Punct}
+use Rattle.ir_lex.specs.declared.token.Kind.TheVariants.{Global, Int, Word, Meta, Hash, Punct}
 use Rattle.ir_lex.specs.declared.phrases.Rule.{Rule}
 use Rattle.ir_lex.specs.declared.phrases.Rule.TheVariants.{HeaderLines, NoteLines, MetaPairs, Alignments, Hashes, Groups, QuietWords}
 

@@ -7,7 +7,7 @@ use Rattle.ir_lex.specs.Bytes.{is_digit}
 use Rattle.ir_lex.specs.Lengths.{begins_by}
 use Rattle.ir_lex.specs.declared.words.Keyword.{Keyword}
 use Rattle.ir_lex.specs.declared.words.Keyword.TheVariants.{HeaderLine, Declare, Call, Align, Comdat, Group, Tail, Quiet, Integer, Outside, Other}
-use Rattle.ir_lex.specs.declared.words.TheConstants.{WORDS}
+use Rattle.ir_lex.specs.declared.words.TheConstants.{LANGUAGE_WORDS, DROPPED_WORDS, OUTSIDE_WORDS}
 
 -- what a word stands for by a table: what the first row of this word says
 unfoldable pub listed : List (List ℕ × Keyword) → List ℕ → Keyword
@@ -32,9 +32,30 @@ abbrev pub integer_keyword : List ℕ → Keyword
 integer_keyword [] = Other
 integer_keyword (b ∷ bs) = if is_width bs then Integer else Outside
 
--- what a word stands for: `i` and digits is an integer type or outside the language, and of any other word the table tells
+-- what a word of a module stands for
+unfoldable pub language_word : List ℕ → Keyword
+language_word w = listed (map (λ row. (row.0.now, row.1)) LANGUAGE_WORDS) w
+
+-- what a word that is dropped stands for
+unfoldable pub dropped_word : List ℕ → Keyword
+dropped_word w = listed (map (λ row. (row.0.now, row.1)) DROPPED_WORDS) w
+
+-- what a word that is outside the language stands for
+unfoldable pub outside_word : List ℕ → Keyword
+outside_word w = listed (map (λ row. (row.0.now, row.1)) OUTSIDE_WORDS) w
+
+-- the word stands for nothing
+abbrev pub is_other : Keyword → Bool
+is_other Other = true
+is_other _ = false
+
+-- what one table tells, or else a later one
+abbrev pub or_else : Keyword → Keyword → Keyword
+or_else keyword later = if is_other keyword then later else keyword
+
+-- what a word stands for: `i` and digits is an integer type or outside the language, and of any other word the tables tell
 unfoldable pub keyword_of : List ℕ → Keyword
-keyword_of w = if is_integer_word w then integer_keyword w else listed (map (λ row. (row.0.now, row.1)) WORDS) w
+keyword_of w = if is_integer_word w then integer_keyword w else or_else (language_word w) (or_else (dropped_word w) (outside_word w))
 
 -- a line that begins with the word is dropped
 abbrev pub is_header : Keyword → Bool

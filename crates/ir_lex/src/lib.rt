@@ -14,7 +14,7 @@ mod token;
 mod words;
 
 pub use error::LexError;
-pub use laws::at_most_one_token_list;
+pub use laws::{at_most_one_token_list, tokens_lie_in_order};
 pub use meaning::word_of;
 pub use quieting::quiet;
 pub use scan::tokens;

@@ -1,7 +1,7 @@
 //! The words of the language, each with what it stands for.
 
 ghost use Rattle.std.specs.Prelude.{◌≡◌, true, map};
-ghost use Rattle.ir_lex.specs.Words.{listed, is_number, is_width, is_integer_word, integer_keyword, keyword_of, is_header, is_caller, is_align, is_comdat, is_group_word, is_quiet_word, is_outside_word};
+ghost use Rattle.ir_lex.specs.Words.{listed, is_number, is_width, is_integer_word, integer_keyword, language_word, dropped_word, outside_word, is_other, keyword_of, is_header, is_caller, is_align, is_comdat, is_group_word, is_quiet_word, is_outside_word};
 
 use crate::lengths::{begins_with, digit_count};
 use crate::numbers::is_below;
@@ -27,20 +27,195 @@ pub enum Keyword {
     Quiet,
     /// An integer type of 1 to 64 bits.
     Integer,
+    /// `type`.
+    Type,
+    /// `global`.
+    Global,
+    /// `constant`.
+    Constant,
+    /// `define`.
+    Define,
+    /// `x`.
+    X,
+    /// `void`.
+    Void,
+    /// `ptr`.
+    Ptr,
+    /// `phi`.
+    Phi,
+    /// `add`.
+    Add,
+    /// `sub`.
+    Sub,
+    /// `mul`.
+    Mul,
+    /// `shl`.
+    Shl,
+    /// `udiv`.
+    Udiv,
+    /// `sdiv`.
+    Sdiv,
+    /// `lshr`.
+    Lshr,
+    /// `ashr`.
+    Ashr,
+    /// `urem`.
+    Urem,
+    /// `srem`.
+    Srem,
+    /// `and`.
+    And,
+    /// `or`.
+    Or,
+    /// `xor`.
+    Xor,
+    /// `nuw`.
+    Nuw,
+    /// `nsw`.
+    Nsw,
+    /// `exact`.
+    Exact,
+    /// `inbounds`.
+    InBounds,
+    /// `icmp`.
+    Icmp,
+    /// `select`.
+    Select,
+    /// `zext`.
+    Zext,
+    /// `sext`.
+    Sext,
+    /// `trunc`.
+    Trunc,
+    /// `to`.
+    To,
+    /// `freeze`.
+    Freeze,
+    /// `alloca`.
+    Alloca,
+    /// `load`.
+    Load,
+    /// `store`.
+    Store,
+    /// `getelementptr`.
+    GetElementPtr,
+    /// `br`.
+    Br,
+    /// `label`.
+    Label,
+    /// `switch`.
+    Switch,
+    /// `ret`.
+    Ret,
+    /// `unreachable`.
+    Unreachable,
+    /// `eq`.
+    Eq,
+    /// `ne`.
+    Ne,
+    /// `ugt`.
+    Ugt,
+    /// `uge`.
+    Uge,
+    /// `ult`.
+    Ult,
+    /// `ule`.
+    Ule,
+    /// `sgt`.
+    Sgt,
+    /// `sge`.
+    Sge,
+    /// `slt`.
+    Slt,
+    /// `sle`.
+    Sle,
+    /// `true`.
+    True,
+    /// `false`.
+    False,
+    /// `null`.
+    Null,
+    /// `undef`.
+    Undef,
+    /// `poison`.
+    Poison,
+    /// `zeroinitializer`.
+    ZeroInitializer,
     /// A word that is outside the language.
     Outside,
     /// Any other word.
     Other,
 }
 
-/// The words that stand for something, each once.
-pub const WORDS: [(&[u8], Keyword); 147] = [
+/// The words that a module is made of.
+const LANGUAGE_WORDS: [(&[u8], Keyword); 59] = [
+    (b"declare", Keyword::Declare),
+    (b"call", Keyword::Call),
+    (b"type", Keyword::Type),
+    (b"global", Keyword::Global),
+    (b"constant", Keyword::Constant),
+    (b"define", Keyword::Define),
+    (b"x", Keyword::X),
+    (b"void", Keyword::Void),
+    (b"ptr", Keyword::Ptr),
+    (b"phi", Keyword::Phi),
+    (b"add", Keyword::Add),
+    (b"sub", Keyword::Sub),
+    (b"mul", Keyword::Mul),
+    (b"shl", Keyword::Shl),
+    (b"udiv", Keyword::Udiv),
+    (b"sdiv", Keyword::Sdiv),
+    (b"lshr", Keyword::Lshr),
+    (b"ashr", Keyword::Ashr),
+    (b"urem", Keyword::Urem),
+    (b"srem", Keyword::Srem),
+    (b"and", Keyword::And),
+    (b"or", Keyword::Or),
+    (b"xor", Keyword::Xor),
+    (b"nuw", Keyword::Nuw),
+    (b"nsw", Keyword::Nsw),
+    (b"exact", Keyword::Exact),
+    (b"inbounds", Keyword::InBounds),
+    (b"icmp", Keyword::Icmp),
+    (b"select", Keyword::Select),
+    (b"zext", Keyword::Zext),
+    (b"sext", Keyword::Sext),
+    (b"trunc", Keyword::Trunc),
+    (b"to", Keyword::To),
+    (b"freeze", Keyword::Freeze),
+    (b"alloca", Keyword::Alloca),
+    (b"load", Keyword::Load),
+    (b"store", Keyword::Store),
+    (b"getelementptr", Keyword::GetElementPtr),
+    (b"br", Keyword::Br),
+    (b"label", Keyword::Label),
+    (b"switch", Keyword::Switch),
+    (b"ret", Keyword::Ret),
+    (b"unreachable", Keyword::Unreachable),
+    (b"eq", Keyword::Eq),
+    (b"ne", Keyword::Ne),
+    (b"ugt", Keyword::Ugt),
+    (b"uge", Keyword::Uge),
+    (b"ult", Keyword::Ult),
+    (b"ule", Keyword::Ule),
+    (b"sgt", Keyword::Sgt),
+    (b"sge", Keyword::Sge),
+    (b"slt", Keyword::Slt),
+    (b"sle", Keyword::Sle),
+    (b"true", Keyword::True),
+    (b"false", Keyword::False),
+    (b"null", Keyword::Null),
+    (b"undef", Keyword::Undef),
+    (b"poison", Keyword::Poison),
+    (b"zeroinitializer", Keyword::ZeroInitializer),
+];
+
+/// The words that are dropped, alone or with what stands beside them.
+const DROPPED_WORDS: [(&[u8], Keyword); 79] = [
     (b"source_filename", Keyword::HeaderLine),
     (b"target", Keyword::HeaderLine),
     (b"attributes", Keyword::HeaderLine),
     (b"uselistorder", Keyword::HeaderLine),
-    (b"declare", Keyword::Declare),
-    (b"call", Keyword::Call),
     (b"align", Keyword::Align),
     (b"dereferenceable", Keyword::Group),
     (b"dereferenceable_or_null", Keyword::Group),
@@ -116,6 +291,10 @@ pub const WORDS: [(&[u8], Keyword); 147] = [
     (b"disjoint", Keyword::Quiet),
     (b"samesign", Keyword::Quiet),
     (b"nusw", Keyword::Quiet),
+];
+
+/// The words that are outside the language.
+const OUTSIDE_WORDS: [(&[u8], Keyword); 66] = [
     (b"half", Keyword::Outside),
     (b"bfloat", Keyword::Outside),
     (b"float", Keyword::Outside),
@@ -240,17 +419,55 @@ fn integer_keyword(word: &[u8]) -> Keyword
     }
 }
 
+/// What a word of a module stands for.
+#[tactic(auto, unfolding(crate::specs::Words::language_word))]
+fn language_word(word: &[u8]) -> Keyword
+    ensures { result ≡ language_word word.now }
+{
+    listed(&LANGUAGE_WORDS, word)
+}
+
+/// What a word that is dropped stands for.
+#[tactic(auto, unfolding(crate::specs::Words::dropped_word))]
+fn dropped_word(word: &[u8]) -> Keyword
+    ensures { result ≡ dropped_word word.now }
+{
+    listed(&DROPPED_WORDS, word)
+}
+
+/// What a word that is outside the language stands for.
+#[tactic(auto, unfolding(crate::specs::Words::outside_word))]
+fn outside_word(word: &[u8]) -> Keyword
+    ensures { result ≡ outside_word word.now }
+{
+    listed(&OUTSIDE_WORDS, word)
+}
+
+/// Whether the word stands for nothing.
+fn is_other(keyword: Keyword) -> bool
+    ensures { result ≡ is_other keyword }
+{
+    matches!(keyword, Keyword::Other)
+}
+
 /// What a word stands for: `i` and digits is an integer type or outside the language, and of any other
-/// word the table tells.
+/// word the tables tell.
 #[tactic(auto, unfolding(crate::specs::Words::keyword_of))]
 pub fn keyword_of(word: &[u8]) -> Keyword
     ensures { result ≡ keyword_of word.now }
 {
     if is_integer_word(word) {
-        integer_keyword(word)
-    } else {
-        listed(&WORDS, word)
+        return integer_keyword(word);
     }
+    let keyword = language_word(word);
+    if !is_other(keyword) {
+        return keyword;
+    }
+    let keyword = dropped_word(word);
+    if !is_other(keyword) {
+        return keyword;
+    }
+    outside_word(word)
 }
 
 /// Whether lines that begin with the word are dropped.

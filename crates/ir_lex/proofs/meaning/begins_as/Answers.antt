@@ -1,7 +1,6 @@
-use Rattle.std.proofs.Common.{◌≡◌, ℕ, ◌+◌, ◌-◌, ◌≤◌, ◌==◌, ◌||◌, Bool, true, false, not, length, take, drop, get_or, refl, sym, ap, ◌∙◌, arith}
+use Rattle.std.proofs.Common.{◌≡◌, ◌-◌, ◌≤◌, ◌||◌, Bool, true, false, not, length, take, drop, refl, sym, ap, ◌∙◌, arith}
 use Rattle.std.proofs.lemmas.List.{take_rest, length-drop}
-use Rattle.ir_lex.specs.Meaning.{escape, unescaped}
-use Rattle.ir_lex.specs.Names.{begins_as, is_empty}
+use Rattle.ir_lex.specs.Meaning.{escape}
 use Rattle.ir_lex.proofs.Escapes.{begins-on, begins-short, begins-end, empty-rest, differs, agrees}
 use Rattle.ir_lex.proofs.meaning.begins_as.Goals as goal
 

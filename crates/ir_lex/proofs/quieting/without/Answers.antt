@@ -1,6 +1,6 @@
-use Rattle.std.proofs.Common.{◌≡◌, ℕ, ◌-◌, ◌+◌, ◌≤◌, ◌++◌, ◌∷◌, [], length, take, drop, get_or, Some, None, sym, ap, ◌∙◌, arith}
+use Rattle.std.proofs.Common.{◌≡◌, ◌-◌, ◌≤◌, ◌++◌, length, take, drop, Some, None, sym, ap, ◌∙◌, arith}
 use Rattle.std.proofs.lemmas.List.{take_rest, length-drop}
-use Rattle.ir_lex.specs.Quiet.{phrase_len, left_behind}
+use Rattle.ir_lex.specs.Quiet.{phrase_len}
 use Rattle.ir_lex.proofs.Dropped.{left-drops, left-keeps, left-end, pushed}
 use Rattle.ir_lex.proofs.quieting.without.Goals as goal
 

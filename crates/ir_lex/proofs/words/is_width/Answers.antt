@@ -1,4 +1,4 @@
-use Rattle.std.proofs.Common.{◌≡◌, true, ◌==◌, not, ◌&&◌, List, ℕ, length, take, refl, sym, subst, arith}
+use Rattle.std.proofs.Common.{◌≡◌, true, List, ℕ, length, take, subst, arith}
 use Rattle.std.specs.List.{prefix_len}
 use Rattle.std.proofs.lemmas.List.{take_all}
 use Rattle.std.proofs.lemmas.Bool.Decides.{nat_tests}
