@@ -1,5 +1,5 @@
 -- The bytes that a list spells, one byte further.
-use Rattle.std.proofs.Common.{◌≡◌, ℕ, zero, suc, ◌+◌, ◌-◌, ◌<◌, ◌≤◌, ◌≢◌, ◌==◌, ◌||◌, not, inl, inr, ◌&&◌, Bool, false, List, [], ◌∷◌, length, drop, get_or, refl, sym, ap, ◌∙◌, arith, drop-cons, add-one, length-drop}
+use Rattle.std.proofs.Common.{◌++◌, append_assoc, append-nil, ◌≡◌, ℕ, zero, suc, ◌+◌, ◌-◌, ◌<◌, ◌≤◌, ◌≢◌, ◌==◌, ◌||◌, not, inl, inr, ◌&&◌, Bool, false, List, [], ◌∷◌, length, drop, get_or, refl, sym, ap, ◌∙◌, arith, drop-cons, add-one, length-drop}
 use Rattle.std.proofs.lemmas.List.{drop-drop, drop_all}
 use Rattle.std.proofs.lemmas.Bool.{eq-eqb}
 use Rattle.std.proofs.lemmas.Bool.Decides.{eqb_tells}
@@ -21,15 +21,28 @@ unescaped-byte (b ∷ bs) (suc n) l e h =
     let less : (escape (b ∷ bs)).1 - 1 ≡ n = omega (arith, e) in
     ap (λ rest. (escape (b ∷ bs)).0 ∷ rest) (ap (λ k. unescaped_behind k bs) less ∙ unescaped-skip n bs)
 
+-- the next byte that is spelled
+pub spelled-on : (body : List ℕ) (at : ℕ) (t : ℕ × ℕ) → at < length body → t ≡ escape (drop at body) → 0 < t.1 → unescaped (drop at body) ≡ t.0 ∷ unescaped (drop (at + t.1) body)
+spelled-on body at t l e h =
+    unescaped-byte (drop at body) t.1 (simp length-drop (omega arith)) (ap (λ p. p.1) (sym e)) h
+    ∙ ap (λ b. b ∷ unescaped (drop t.1 (drop at body))) (ap (λ p. p.0) (sym e))
+    ∙ ap (λ rest. t.0 ∷ unescaped rest) (drop-drop t.1 at body)
+
+-- nothing is left to read
+pub spelled-end : (body bytes : List ℕ) (at : ℕ) → length body ≤ at → bytes ++ unescaped (drop at body) ≡ bytes
+unfolding unescaped_behind
+spelled-end body bytes at l = let none : drop at body ≡ [] = drop_all at body l in rw none (append-nil bytes)
+
+-- one byte more at the end of a list
+pub byte-pushed : (a b : List ℕ) (t : ℕ) (x y : List ℕ) → b ≡ a ++ t ∷ [] → x ≡ t ∷ y → a ++ x ≡ b ++ y
+byte-pushed a b t x y e f = rw (e, f) (sym (append_assoc a (t ∷ []) y))
+
 -- the next byte of a name and of what it is to begin with
 pub begins-on : (whole : Bool) (body start : List ℕ) (at i : ℕ) (t : ℕ × ℕ) → at < length body → i < length start → t ≡ escape (drop at body) → 0 < t.1
     → begins_as whole (unescaped (drop at body)) (drop i start) ≡ ((t.0 == get_or start i 0) && begins_as whole (unescaped (drop (at + t.1) body)) (drop (i + 1) start))
 unfolding begins_as
 begins-on whole body start at i t l k e h =
-    let bytes : unescaped (drop at body) ≡ t.0 ∷ unescaped (drop (at + t.1) body) =
-    unescaped-byte (drop at body) t.1 (simp length-drop (omega arith)) (ap (λ p. p.1) (sym e)) h
-    ∙ ap (λ b. b ∷ unescaped (drop t.1 (drop at body))) (ap (λ p. p.0) (sym e))
-    ∙ ap (λ rest. t.0 ∷ unescaped rest) (drop-drop t.1 at body) in
+    let bytes : unescaped (drop at body) ≡ t.0 ∷ unescaped (drop (at + t.1) body) = spelled-on body at t l e h in
     let cut : drop i start ≡ get_or start i 0 ∷ drop (i + 1) start = rw add-one (drop-cons start i 0 k) in
     rw (bytes, cut) refl
 

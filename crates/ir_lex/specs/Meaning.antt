@@ -4,7 +4,7 @@ use Rattle.ir_lex.specs.Lengths.{begins_by}
 use Rattle.ir_lex.specs.Words.{keyword_of}
 use Rattle.ir_lex.specs.declared.token.Token.{Token}
 use Rattle.ir_lex.specs.declared.token.Kind.{Kind}
-use Rattle.ir_lex.specs.declared.token.Kind.TheVariants.{Word}
+use Rattle.ir_lex.specs.declared.token.Kind.TheVariants.{Local, Global, Label, Word}
 use Rattle.ir_lex.specs.declared.words.Keyword.{Keyword}
 use Rattle.ir_lex.specs.declared.words.Keyword.TheVariants.{Other}
 
@@ -45,13 +45,19 @@ unescaped = unescaped_behind 0
 abbrev pub unquoted : List ℕ → List ℕ
 unquoted w = if begins_by (λ b. b == 34) w then take (length w - 2) (drop 1 w) else w
 
--- the bytes that spell the name of a global, without its `@` and its quotes
-abbrev pub global_spelling : List ℕ → Token → List ℕ
-global_spelling text t = unquoted (drop 1 (spelling text t))
+-- the bytes that spell the name of a local, a global or a label, without `%`, `@`, `:` and quotes
+abbrev pub name_spelling : List ℕ → Token → List ℕ
+name_spelling text t = by_kind t.kind (spelling text t)
+  where
+    by_kind : Kind → List ℕ → List ℕ
+    by_kind Local w = unquoted (drop 1 w)
+    by_kind Global w = unquoted (drop 1 w)
+    by_kind Label w = unquoted (take (length w - 1) w)
+    by_kind _ w = []
 
--- the name of a global
-abbrev pub global_name : List ℕ → Token → List ℕ
-global_name text t = unescaped (global_spelling text t)
+-- the name of a local, a global or a label
+abbrev pub name_of : List ℕ → Token → List ℕ
+name_of text t = unescaped (name_spelling text t)
 
 -- what the word of a token stands for
 abbrev pub word_of : List ℕ → Token → Keyword

@@ -4,7 +4,7 @@ use Rattle.std.specs.List.{prefix_len}
 use Rattle.std.specs.Str.{bytes_eq}
 use Rattle.ir_lex.specs.Lengths.{begins_by, one_more}
 use Rattle.ir_lex.specs.Words.{keyword_of, is_header, is_caller, is_align, is_comdat, is_group_word, is_quiet_word, is_outside_word}
-use Rattle.ir_lex.specs.Meaning.{spelling, word_of, global_name}
+use Rattle.ir_lex.specs.Meaning.{spelling, word_of, name_of}
 use Rattle.ir_lex.specs.Names.{is_note_name}
 use Rattle.ir_lex.specs.declared.error.LexError.{LexError}
 use Rattle.ir_lex.specs.declared.error.LexError.TheVariants.{Bad, Outside, OutOfMemory}
@@ -67,7 +67,7 @@ header_line text (t ∷ toks) = if t.first && begins_header text t then Some (li
 -- rule 2: a line whose first token is `declare` or a word of calls, and whose first global is a note to the optimizer
 abbrev pub names_note : List ℕ → List Token → Bool
 names_note text [] = false
-names_note text (t ∷ toks) = if is_global t.kind then is_note_name (global_name text t) else names_note text toks
+names_note text (t ∷ toks) = if is_global t.kind then is_note_name (name_of text t) else names_note text toks
 
 abbrev pub note_line : List ℕ → List Token → Option ℕ
 note_line text [] = None

@@ -15,7 +15,7 @@ mod words;
 
 pub use error::LexError;
 pub use laws::{at_most_one_token_list, tokens_lie_in_order};
-pub use meaning::word_of;
+pub use meaning::{name_of, word_of};
 pub use quieting::quiet;
 pub use scan::tokens;
 pub use token::{Kind, Token};

@@ -1,12 +1,13 @@
 //! What a token means.
 
-ghost use Rattle.std.specs.Prelude.{◌≡◌, ◌≤◌, ◌<◌, length, true};
-ghost use Rattle.ir_lex.specs.Meaning.{spelling, is_hex, hex_value, escape, unescaped, unquoted, global_spelling, word_of};
+ghost use Rattle.std.specs.Prelude.{◌≡◌, ◌≤◌, ◌<◌, length, true, drop, IfOk};
+ghost use Rattle.ir_lex.specs.Meaning.{spelling, is_hex, hex_value, escape, unescaped, unquoted, name_spelling, name_of, word_of};
 ghost use Rattle.ir_lex.specs.Names.{begins_as};
 
 use crate::lengths::begins_with;
 use crate::token::{Kind, Token};
 use crate::words::{Keyword, keyword_of};
+use std::alloc::{AllocError, Global};
 
 /// The bytes of a token, as they stand in the text.
 pub fn spelling<'a>(text: &'a [u8], token: &Token) -> &'a [u8]
@@ -78,14 +79,48 @@ fn unquoted(name: &[u8]) -> &[u8]
     }
 }
 
-/// The bytes that spell the name of a global, without its `@` and its quotes.
-pub fn global_spelling<'a>(text: &'a [u8], token: &Token) -> &'a [u8]
-    ensures { result.now ≡ global_spelling text.now token.now }
+/// What follows the first byte.
+fn without_first(bytes: &[u8]) -> &[u8]
+    ensures { result.now ≡ drop 1 bytes.now }
 {
-    match spelling(text, token) {
-        [_, name @ ..] => unquoted(name),
-        [] => &[],
+    match bytes {
+        [_, rest @ ..] => rest,
+        [] => bytes,
     }
+}
+
+/// The bytes that spell the name of a local, a global or a label, without `%`, `@`, `:` and quotes.
+pub fn name_spelling<'a>(text: &'a [u8], token: &Token) -> &'a [u8]
+    ensures { result.now ≡ name_spelling text.now token.now }
+{
+    let bytes = spelling(text, token);
+    match token.kind {
+        Kind::Local | Kind::Global => unquoted(without_first(bytes)),
+        Kind::Label => unquoted(&bytes[..bytes.len().saturating_sub(1)]),
+        _ => &[],
+    }
+}
+
+/// The bytes that a text spells.
+fn unescaped(alloc: Global, body: &[u8]) -> Result<Vec<u8>, AllocError>
+    ensures { IfOk result (λ bytes. bytes.items ≡ unescaped body.now) }
+{
+    let mut bytes = Vec::new(alloc);
+    let mut at = 0;
+    while at < body.len() {
+        let (byte, count) = escape(&body[at..]);
+        bytes.push(byte)?;
+        at += count;
+    }
+    Ok(bytes)
+}
+
+/// The name of a local, a global or a label: its bytes without `%`, `@`, `:` and quotes, with `\` forms
+/// read. Any other token has the empty name.
+pub fn name_of(alloc: Global, text: &[u8], token: &Token) -> Result<Vec<u8>, AllocError>
+    ensures { IfOk result (λ name. name.items ≡ name_of text.now token.now) }
+{
+    unescaped(alloc, name_spelling(text, token))
 }
 
 /// Whether a name that is spelled so begins with these bytes, and is no longer where it is to be whole.

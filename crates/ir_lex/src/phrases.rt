@@ -2,12 +2,12 @@
 
 ghost use Rattle.std.specs.Prelude.{◌+◌, ◌≡◌, ◌≤◌, ◌<◌, length, IfSome};
 ghost use Rattle.std.specs.List.{prefix_len};
-ghost use Rattle.ir_lex.specs.Meaning.{global_name};
+ghost use Rattle.ir_lex.specs.Meaning.{name_of};
 ghost use Rattle.ir_lex.specs.Names.{is_note_name};
 ghost use Rattle.ir_lex.specs.Quiet.{is_meta, is_hash, is_int, is_global, is_punctuation, is_byte, continues, rest_of_line, begins_header, header_line, names_note, note_line, and_comma, meta_pair, closing_len, group_len, amount_len, alignment, hash_token, word_and_group, comdat_phrase, group_phrase, quiet_word, phrase_len};
 
 use crate::lengths::begins_with;
-use crate::meaning::{begins_as, global_spelling, spelling, word_of};
+use crate::meaning::{begins_as, name_spelling, spelling, word_of};
 use crate::token::{Kind, Token};
 use crate::words::{
     is_align, is_caller, is_comdat, is_group_word, is_header, is_quiet_word, keyword_of,
@@ -117,9 +117,9 @@ fn header_line(text: &[u8], toks: &[Token]) -> Option<usize>
 
 /// Whether a name is that of a function that only tells the optimizer something.
 fn is_note_name(text: &[u8], token: &Token) -> bool
-    ensures { result ≡ is_note_name (global_name text.now token.now) }
+    ensures { result ≡ is_note_name (name_of text.now token.now) }
 {
-    let name = global_spelling(text, token);
+    let name = name_spelling(text, token);
     begins_as(true, name, b"llvm.assume")
         || begins_as(false, name, b"llvm.dbg.")
         || begins_as(false, name, b"llvm.lifetime.")

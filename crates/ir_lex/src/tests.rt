@@ -1,7 +1,7 @@
 //! Texts and their tokens, worked out by hand.
 
 use super::meaning::spelling;
-use super::{Kind, LexError, Token, quiet, tokens};
+use super::{Kind, LexError, Token, name_of, quiet, tokens};
 use std::alloc::{AllocError, Global};
 use std::test::Fail;
 
@@ -205,6 +205,21 @@ fn kept_rows(rt: HostRuntime) -> Result<(), Fail> {
                 assert_eq!(rt; (at, len), (place, count), "of {text:?}");
             }
             _ => assert!(rt; false, "of {text:?}"),
+        }
+    }
+    let names = [
+        ("%x.1", "x.1"),
+        ("@\"a\\41\\\\b\"", "aA\\b"),
+        ("\"l \\4g\\\":", "l \\4g\\"),
+        ("5:", "5"),
+        ("word", ""),
+    ];
+    for (text, want) in names {
+        let toks = tokens(rt.alloc(), text.as_bytes())?;
+        assert_eq!(rt; toks.len(), 1, "of {text:?}");
+        for token in &toks {
+            let name = name_of(rt.alloc(), text.as_bytes(), token)?;
+            assert_eq!(rt; name.as_slice(), want.as_bytes(), "of {text:?}");
         }
     }
     Ok(())
