@@ -1,6 +1,9 @@
 pub mod Digits
+pub mod Dropped
+pub mod Escapes
 pub mod Floats
 pub mod Labels
+pub mod InOrder
 pub mod Integers
 pub mod Order
 pub mod Paths

@@ -1,4 +1,8 @@
 pub mod Bytes
 pub mod Lengths
+pub mod Meaning
+pub mod Names
+pub mod Quiet
 pub mod Spelling
 pub mod Tokens
+pub mod Words

@@ -55,6 +55,11 @@ pub data Path : ℕ → Bool → List ℕ → List Token → ℕ → Bool → Li
 abbrev pub AreTokens : List ℕ → List Token → Type 0
 AreTokens text toks = (fresh : Bool) × Path 0 true text toks (length text) fresh []
 
+-- the tokens lie in a text of this size, none of them empty, one after another from an offset on
+abbrev pub LieFrom : ℕ → ℕ → List Token → Type 0
+LieFrom at size [] = at ≤ size
+LieFrom at size (t ∷ toks) = (at ≤ t.start) × (t.start < t.end) × LieFrom t.end size toks
+
 -- the text before the offset is tokens, blanks and comments, and there no token, blank or comment begins
 pub record IsBad (text : List ℕ) (at : ℕ) : Type 0 where
   pub toks : List Token

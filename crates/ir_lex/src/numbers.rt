@@ -13,7 +13,7 @@ use crate::lengths::digit_count;
 const PAST_MOST: u128 = 1 << 127;
 
 /// Whether the number of these digits is below the limit.
-fn is_below(digits: &[u8], limit: u128) -> bool
+pub fn is_below(digits: &[u8], limit: u128) -> bool
     requires digits { Passes is_digit digits.now }
     requires small { limit < 2 ^ 128 - 1 }
     ensures { result ≡ nat_lt (digits_value 10 digits.now) limit }

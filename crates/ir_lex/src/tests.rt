@@ -1,6 +1,7 @@
 //! Texts and their tokens, worked out by hand.
 
-use super::{Kind, LexError, Token, tokens};
+use super::meaning::spelling;
+use super::{Kind, LexError, Token, name_of, quiet, tokens};
 use std::alloc::{AllocError, Global};
 use std::test::Fail;
 
@@ -95,6 +96,131 @@ fn rows(rt: HostRuntime) -> Result<(), Fail> {
     for (text, want) in rows {
         let row = listed(rt.alloc(), text)?;
         assert_eq!(rt; row.as_str(), want, "of {text:?}");
+    }
+    Ok(())
+}
+
+/// The kept tokens of a text, each with a blank behind it.
+fn kept(alloc: Global, text: &[u8]) -> Result<Vec<u8>, LexError> {
+    let toks = tokens(alloc, text)?;
+    let mut row = Vec::new(alloc);
+    for token in &quiet(alloc, text, &toks)? {
+        let bytes = spelling(text, token);
+        if row.extend_from_slice(bytes).is_err() || row.push(b' ').is_err() {
+            return Err(LexError::OutOfMemory);
+        }
+    }
+    Ok(row)
+}
+
+#[test]
+fn kept_rows(rt: HostRuntime) -> Result<(), Fail> {
+    let rows = [
+        // Lines that are dropped whole.
+        (
+            "source_filename = \"a.c\"\ntarget triple = \"riscv64\"\n@x = global i32 0",
+            "@x = global i32 0 ",
+        ),
+        (
+            "attributes #0 = { nounwind }\nuselistorder i32 %a, { 1, 0 }\n$c = comdat any\n@y = constant i8 1",
+            "@y = constant i8 1 ",
+        ),
+        (
+            "!llvm.ident = !{!0}\n!0 = !{i32 1}\n  #dbg_value(i32 %a, !5, !6)\nret void",
+            "ret void ",
+        ),
+        (
+            "ret void source_filename $x\n  target x",
+            "ret void source_filename $x ",
+        ),
+        ("#dbg_x y\n#debug z", "z "),
+        ("\ntarget: ret void", "target: ret void "),
+        (
+            "declare void @llvm.assume(i1 noundef)\ndeclare void @llvm.lifetime.start.p0(i64, ptr)\ndeclare i32 @putchar(i32)",
+            "declare i32 @putchar ( i32 ) ",
+        ),
+        (
+            "call void @llvm.dbg.value(i32 %x)\ntail call void @\"llvm.\\61ssume\"(i1 %c)\nnotail call void @llvm.dbg.a()\nmusttail call void @llvm.lifetime.b()\nret void",
+            "ret void ",
+        ),
+        (
+            "call void @llvm.assumed()\ncall void @llvm.dbg()",
+            "call void @llvm.assumed ( ) call void @llvm.dbg ( ) ",
+        ),
+        (
+            "call void @f(ptr @llvm.assume)\n%a = call i32 @llvm.dbg.x()",
+            "call void @f ( ptr @llvm.assume ) %a = call i32 @llvm.dbg.x ( ) ",
+        ),
+        // Two metas in a row.
+        ("ret void, !dbg !5, !tbaa !6", "ret void "),
+        ("ret void, !a !b !c", "ret void !c "),
+        ("x !a , !b , , !c !d", "x !a , !b , "),
+        (
+            "define void @f() !dbg !5 !prof !6 {",
+            "define void @f ( ) { ",
+        ),
+        // Alignments.
+        ("load i32, ptr %p, align 4", "load i32 , ptr %p "),
+        ("ptr align(8) %p, align (1, (2), 3), x", "ptr %p , x "),
+        ("x align y align 4:", "x align y align 4: "),
+        ("x,, align 4 align 8", "x , "),
+        ("x, align (1, 2", "x "),
+        // Hashes, groups and words.
+        ("define void @f() #0 #1 {", "define void @f ( ) { "),
+        ("ptr sret(%T) dereferenceable(16) %p", "ptr %p "),
+        ("@x = global i32 0, comdat", "@x = global i32 0 "),
+        ("x, comdat($c), uwtable(sync) y", "x , y "),
+        ("x range(i8 0, (3)) sret (a) (b) uwtable", "x ( b ) "),
+        ("x memory(argmem: read y", "x "),
+        (
+            "@x = private unnamed_addr constant i8 1",
+            "@x = constant i8 1 ",
+        ),
+        ("nusw: comdat: ret", "nusw: comdat: ret "),
+        (
+            "i1 i64 i i64x double: align(double) x",
+            "i1 i64 i i64x double: x ",
+        ),
+        (
+            "define dso_local noundef signext i32 @main() local_unnamed_addr #0 !dbg !10 {\nentry:\n  %r = tail call signext i32 @f(ptr noundef nonnull align 4 dereferenceable(8) @x) #2, !dbg !12\n  call void @llvm.lifetime.start.p0(i64 8, ptr %r), !dbg !13\n  br label %b, !llvm.loop !14\n}\n\nattributes #0 = { nounwind }\n!14 = distinct !{!14}",
+            "define i32 @main ( ) { entry: %r = call i32 @f ( ptr @x ) br label %b } ",
+        ),
+    ];
+    for (text, want) in rows {
+        let row = kept(rt.alloc(), text.as_bytes())?;
+        assert_eq!(rt; row.as_slice(), want.as_bytes(), "of {text:?}");
+    }
+    let outside_rows = [
+        ("i65", 0, 3),
+        ("i07 double", 0, 3),
+        ("i18446744073709551617", 0, 21),
+        ("i0", 0, 2),
+        ("double nounwind half", 0, 6),
+        ("target double\nx double", 16, 6),
+        ("declare i32 @f(...)", 15, 3),
+    ];
+    for (text, place, count) in outside_rows {
+        match kept(rt.alloc(), text.as_bytes()) {
+            Err(LexError::Outside { at, len }) => {
+                assert_eq!(rt; (at, len), (place, count), "of {text:?}");
+            }
+            _ => assert!(rt; false, "of {text:?}"),
+        }
+    }
+    let names = [
+        ("%x.1", "x.1"),
+        ("@\"a\\41\\\\b\"", "aA\\b"),
+        ("\"l \\4g\\\":", "l \\4g\\"),
+        ("5:", "5"),
+        ("word", ""),
+    ];
+    for (text, want) in names {
+        let toks = tokens(rt.alloc(), text.as_bytes())?;
+        assert_eq!(rt; toks.len(), 1, "of {text:?}");
+        for token in &toks {
+            let name = name_of(rt.alloc(), text.as_bytes(), token)?;
+            assert_eq!(rt; name.as_slice(), want.as_bytes(), "of {text:?}");
+        }
     }
     Ok(())
 }

@@ -1,0 +1,97 @@
+-- What a word stands for.
+use Rattle.std.specs.Prelude.{ℕ, Bool, true, false, not, ◌==◌, ◌&&◌, if◌then◌else◌, nat_lt, List, [], ◌∷◌, length, map}
+use Rattle.std.specs.Str.{bytes_eq}
+use Rattle.std.specs.Str.Parse.{digits_value}
+use Rattle.std.specs.List.{prefix_len}
+use Rattle.ir_lex.specs.Bytes.{is_digit}
+use Rattle.ir_lex.specs.Lengths.{begins_by}
+use Rattle.ir_lex.specs.declared.words.Keyword.{Keyword}
+use Rattle.ir_lex.specs.declared.words.Keyword.TheVariants.{HeaderLine, Declare, Call, Align, Comdat, Group, Tail, Quiet, Integer, Outside, Other}
+use Rattle.ir_lex.specs.declared.words.TheConstants.{LANGUAGE_WORDS, DROPPED_WORDS, OUTSIDE_WORDS}
+
+-- what a word stands for by a table: what the first row of this word says
+unfoldable pub listed : List (List ℕ × Keyword) → List ℕ → Keyword
+listed [] w = Other
+listed (row ∷ rows) w = if bytes_eq row.0 w then row.1 else listed rows w
+
+-- digits, at least one
+abbrev pub is_number : List ℕ → Bool
+is_number w = not (prefix_len is_digit w == 0) && (prefix_len is_digit w == length w)
+
+-- a width of an integer type, in digits: a number of 1 to 64 without a leading zero
+abbrev pub is_width : List ℕ → Bool
+is_width digits = not (begins_by (λ b. b == 48) digits) && nat_lt (digits_value 10 digits) 65
+
+-- `i` and digits
+abbrev pub is_integer_word : List ℕ → Bool
+is_integer_word [] = false
+is_integer_word (b ∷ bs) = (b == 105) && is_number bs
+
+-- what `i` and digits stand for
+abbrev pub integer_keyword : List ℕ → Keyword
+integer_keyword [] = Other
+integer_keyword (b ∷ bs) = if is_width bs then Integer else Outside
+
+-- what a word of a module stands for
+unfoldable pub language_word : List ℕ → Keyword
+language_word w = listed (map (λ row. (row.0.now, row.1)) LANGUAGE_WORDS) w
+
+-- what a word that is dropped stands for
+unfoldable pub dropped_word : List ℕ → Keyword
+dropped_word w = listed (map (λ row. (row.0.now, row.1)) DROPPED_WORDS) w
+
+-- what a word that is outside the language stands for
+unfoldable pub outside_word : List ℕ → Keyword
+outside_word w = listed (map (λ row. (row.0.now, row.1)) OUTSIDE_WORDS) w
+
+-- the word stands for nothing
+abbrev pub is_other : Keyword → Bool
+is_other Other = true
+is_other _ = false
+
+-- what one table tells, or else a later one
+abbrev pub or_else : Keyword → Keyword → Keyword
+or_else keyword later = if is_other keyword then later else keyword
+
+-- what a word stands for: `i` and digits is an integer type or outside the language, and of any other word the tables tell
+unfoldable pub keyword_of : List ℕ → Keyword
+keyword_of w = if is_integer_word w then integer_keyword w else or_else (language_word w) (or_else (dropped_word w) (outside_word w))
+
+-- a line that begins with the word is dropped
+abbrev pub is_header : Keyword → Bool
+is_header HeaderLine = true
+is_header _ = false
+
+-- the word may begin a line that declares or calls a note to the optimizer
+abbrev pub is_caller : Keyword → Bool
+is_caller Declare = true
+is_caller Call = true
+is_caller Tail = true
+is_caller _ = false
+
+-- `align`
+abbrev pub is_align : Keyword → Bool
+is_align Align = true
+is_align _ = false
+
+-- `comdat`
+abbrev pub is_comdat : Keyword → Bool
+is_comdat Comdat = true
+is_comdat _ = false
+
+-- a group may follow the word, which is dropped with it
+abbrev pub is_group_word : Keyword → Bool
+is_group_word Group = true
+is_group_word Comdat = true
+is_group_word _ = false
+
+-- the word is dropped alone
+abbrev pub is_quiet_word : Keyword → Bool
+is_quiet_word Quiet = true
+is_quiet_word Tail = true
+is_quiet_word _ = false
+
+-- the word is outside the language
+abbrev pub is_outside_word : Keyword → Bool
+is_outside_word Outside = true
+is_outside_word _ = false
