@@ -1,17 +1,21 @@
 //! The machine, and one step of it.
 
-ghost use Rattle.std.specs.Prelude.{◌≡◌, ◌<◌, Some, map, IfOk, OnErr};
+ghost use Rattle.std.specs.Prelude.{◌≡◌, ◌<◌, Some, map, IfOk, IsFalse, OnErr};
 ghost use Rattle.rv_inst.specs.Word.{Fits};
+ghost use Rattle.rv_machine.specs.Groups.{is_control};
 ghost use Rattle.rv_machine.specs.Ticks.{IsTick};
 ghost use Rattle.rv_model.specs.Memory.{word_at};
 ghost use Rattle.rv_model.specs.Run.{flipped};
 ghost use Rattle.rv_model.specs.Start.{loaded_segment, started};
 ghost use Rattle.rv_model.specs.State.{next, register, set_register};
-ghost use Rattle.rv_model.specs.Step.{act, called, fetched, Continues, branched, put, step};
+ghost use Rattle.rv_model.specs.Step.{act, called, fetched, linked, Continues, branched, put, step};
 
 use crate::memory::{EXECUTED, MemorySegment, bytes_at};
+use crate::operations::{
+    even_part, less_signed, shifted_left, shifted_right, shifted_signed, truth,
+};
 use crate::runner::Output;
-use crate::values::{bits64, upper_value};
+use crate::values::{bits64, shift_amount, upper_value};
 use byteorder::{ByteOrder, LittleEndian};
 use elf_file::{Image, Segment};
 use rv_inst::{Form, decode};
@@ -155,18 +159,107 @@ impl Machine {
         ensures { IsTick result (act form self.old) self.old self.new }
     {
         match form {
-            Form::LUI(rd, imm) => self.put(rd, upper_value(imm)),
-            Form::ADDI(rd, rs1, imm) => {
-                let sum = self.register(rs1).wrapping_add(bits64(imm));
-                self.put(rd, sum)
+            Form::JAL(rd, offset) => {
+                let target = self.pc().wrapping_add(bits64(offset));
+                self.link(rd, target)
+            }
+            Form::JALR(rd, rs1, imm) => {
+                let target = even_part(self.register(rs1).wrapping_add(bits64(imm)));
+                self.link(rd, target)
             }
             Form::BEQ(rs1, rs2, offset) => {
-                let equal = self.register(rs1) == self.register(rs2);
-                self.branch(equal, offset)
+                let test = self.register(rs1) == self.register(rs2);
+                self.branch(test, offset)
+            }
+            Form::BNE(rs1, rs2, offset) => {
+                let test = self.register(rs1) != self.register(rs2);
+                self.branch(test, offset)
+            }
+            Form::BLT(rs1, rs2, offset) => {
+                let test = less_signed(self.register(rs1), self.register(rs2));
+                self.branch(test, offset)
+            }
+            Form::BGE(rs1, rs2, offset) => {
+                let test = !less_signed(self.register(rs1), self.register(rs2));
+                self.branch(test, offset)
+            }
+            Form::BLTU(rs1, rs2, offset) => {
+                let test = self.register(rs1) < self.register(rs2);
+                self.branch(test, offset)
+            }
+            Form::BGEU(rs1, rs2, offset) => {
+                let test = self.register(rs1) >= self.register(rs2);
+                self.branch(test, offset)
             }
             Form::ECALL => self.call(),
+            _ => self.compute(form),
+        }
+    }
+
+    /// Executes an instruction that goes on at the next word.
+    #[tactic(auto, unfolding(rv_model::specs::Step::act))]
+    fn compute(&mut self, form: Form) -> Tick
+        requires fits { Fits form }
+        requires group { IsFalse (is_control form) }
+        ensures { IsTick result (act form self.old) self.old self.new }
+    {
+        match form {
+            Form::LUI(rd, imm) => self.put(rd, upper_value(imm)),
+            Form::AUIPC(rd, imm) => self.put(rd, self.pc().wrapping_add(upper_value(imm))),
+            Form::ADDI(rd, rs1, imm) => self.put(rd, self.register(rs1).wrapping_add(bits64(imm))),
+            Form::SLTI(rd, rs1, imm) => {
+                self.put(rd, truth(less_signed(self.register(rs1), bits64(imm))))
+            }
+            Form::SLTIU(rd, rs1, imm) => self.put(rd, truth(self.register(rs1) < bits64(imm))),
+            Form::XORI(rd, rs1, imm) => self.put(rd, self.register(rs1) ^ bits64(imm)),
+            Form::ORI(rd, rs1, imm) => self.put(rd, self.register(rs1) | bits64(imm)),
+            Form::ANDI(rd, rs1, imm) => self.put(rd, self.register(rs1) & bits64(imm)),
+            Form::SLLI(rd, rs1, imm) => {
+                self.put(rd, shifted_left(self.register(rs1), shift_amount(imm)))
+            }
+            Form::SRLI(rd, rs1, imm) => {
+                self.put(rd, shifted_right(self.register(rs1), shift_amount(imm)))
+            }
+            Form::SRAI(rd, rs1, imm) => {
+                self.put(rd, shifted_signed(self.register(rs1), shift_amount(imm)))
+            }
+            Form::ADD(rd, rs1, rs2) => {
+                self.put(rd, self.register(rs1).wrapping_add(self.register(rs2)))
+            }
+            Form::SUB(rd, rs1, rs2) => {
+                self.put(rd, self.register(rs1).wrapping_sub(self.register(rs2)))
+            }
+            Form::SLL(rd, rs1, rs2) => {
+                self.put(rd, shifted_left(self.register(rs1), self.register(rs2)))
+            }
+            Form::SLT(rd, rs1, rs2) => {
+                self.put(rd, truth(less_signed(self.register(rs1), self.register(rs2))))
+            }
+            Form::SLTU(rd, rs1, rs2) => {
+                self.put(rd, truth(self.register(rs1) < self.register(rs2)))
+            }
+            Form::XOR(rd, rs1, rs2) => self.put(rd, self.register(rs1) ^ self.register(rs2)),
+            Form::SRL(rd, rs1, rs2) => {
+                self.put(rd, shifted_right(self.register(rs1), self.register(rs2)))
+            }
+            Form::SRA(rd, rs1, rs2) => {
+                self.put(rd, shifted_signed(self.register(rs1), self.register(rs2)))
+            }
+            Form::OR(rd, rs1, rs2) => self.put(rd, self.register(rs1) | self.register(rs2)),
+            Form::AND(rd, rs1, rs2) => self.put(rd, self.register(rs1) & self.register(rs2)),
             _ => Tick::Trapped(self.pc(), Cause::Illegal),
         }
+    }
+
+    /// Puts the address of the next word into a register, and goes on at the target.
+    fn link(&mut self, rd: u8, target: u64) -> Tick
+        requires { rd < 32 }
+        ensures { IsTick result (linked rd target self.old) self.old self.new }
+    {
+        let next = self.pc().wrapping_add(4);
+        self.set_register(rd, next);
+        self.pc = target;
+        Tick::Went
     }
 
     /// Puts a value into a register, and goes on at the next word.

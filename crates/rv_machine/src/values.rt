@@ -2,7 +2,8 @@
 
 ghost use Rattle.std.specs.Prelude.{◌≡◌, ◌^◌};
 ghost use Rattle.rv_inst.specs.Word.{IsBelow};
-ghost use Rattle.rv_model.specs.Step.{bits64, upper_value};
+ghost use Rattle.rv_inst.specs.Format.{unsigned};
+ghost use Rattle.rv_model.specs.Operations.{bits64, upper_value};
 
 /// The bits above the lowest 32, all set.
 const ALL_ABOVE_WORD: u64 = 0xffff_ffff_0000_0000;
@@ -25,4 +26,12 @@ pub fn upper_value(field: i32) -> u64
     } else {
         word + ALL_ABOVE_WORD
     }
+}
+
+/// The amount of a shift by a constant.
+pub fn shift_amount(amount: i32) -> u64
+    requires { IsBelow 64 amount }
+    ensures { result ≡ unsigned amount }
+{
+    amount as u64
 }
