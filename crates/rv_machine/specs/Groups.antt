@@ -1,5 +1,5 @@
 -- The groups of instructions that the code tells apart, by their major opcodes (RISC-V Unprivileged ISA, "RV32/64G Instruction Set Listings").
-use Rattle.std.specs.Prelude.{ℕ, Bool, ◌==◌, ◌||◌}
+use Rattle.std.specs.Prelude.{ℕ, Bool, ◌==◌, ◌&&◌, ◌||◌}
 use Rattle.rv_inst.specs.declared.instruction.Form.{Form}
 use Rattle.rv_inst.specs.Table.{row}
 use Rattle.rv_inst.specs.Forms.{kind_of}
@@ -11,3 +11,11 @@ opcode_of i = (row (kind_of i)).opcode
 -- JAL, JALR, BRANCH and SYSTEM
 abbrev pub is_control : Form → Bool
 is_control i = opcode_of i == 0b1101111 || (opcode_of i == 0b1100111 || (opcode_of i == 0b1100011 || opcode_of i == 0b1110011))
+
+-- LUI, AUIPC, OP-IMM and OP-IMM-32
+abbrev pub is_immediate : Form → Bool
+is_immediate i = opcode_of i == 0b0110111 || (opcode_of i == 0b0010111 || (opcode_of i == 0b0010011 || opcode_of i == 0b0011011))
+
+-- OP without the M extension, which has 1 in bit 25
+abbrev pub is_register : Form → Bool
+is_register i = opcode_of i == 0b0110011 && (row (kind_of i)).bit25 == 0

@@ -1,7 +1,9 @@
 //! The operations on words of 64 bits.
 
-ghost use Rattle.std.specs.Prelude.{◌≡◌};
-ghost use Rattle.rv_model.specs.Operations.{even_part, less_signed, shifted_left, shifted_right, shifted_signed, truth};
+ghost use Rattle.std.specs.Prelude.{◌≡◌, ◌%◌, ◌^◌};
+ghost use Rattle.rv_model.specs.Operations.{even_part, less_signed, plus32, minus32, shifted_left, shifted_left32, shifted_right, shifted_right32, shifted_signed, shifted_signed32, truth, word32};
+
+use crate::values::{bits64, sign_extended};
 
 /// Whether the first word is less than the second as a signed number.
 pub fn less_signed(a: u64, b: u64) -> bool
@@ -43,4 +45,54 @@ pub fn shifted_signed(a: u64, amount: u64) -> u64
     ensures { result ≡ shifted_signed a amount }
 {
     (a.cast_signed() >> (amount % 64)).cast_unsigned()
+}
+
+/// The low 32 bits of a word.
+fn low_half(a: u64) -> u32
+    ensures { result ≡ a % 2 ^ 32 }
+{
+    (a % (1 << 32)) as u32
+}
+
+/// The low 32 bits of a word, extended by their sign.
+pub fn word32(a: u64) -> u64
+    ensures { result ≡ word32 a }
+{
+    sign_extended(low_half(a))
+}
+
+/// The sum of the low 32 bits, extended by its sign.
+pub fn plus32(a: u64, b: u64) -> u64
+    ensures { result ≡ plus32 a b }
+{
+    word32(a.wrapping_add(b))
+}
+
+/// The difference of the low 32 bits, extended by its sign.
+pub fn minus32(a: u64, b: u64) -> u64
+    ensures { result ≡ minus32 a b }
+{
+    word32(a.wrapping_sub(b))
+}
+
+/// The low 32 bits shifted to the left by the low five bits of the amount, extended by their sign.
+pub fn shifted_left32(a: u64, amount: u64) -> u64
+    ensures { result ≡ shifted_left32 a amount }
+{
+    word32(shifted_left(a, amount % 32))
+}
+
+/// The low 32 bits shifted to the right by the low five bits of the amount, with zeros brought in, and
+/// extended by their sign.
+pub fn shifted_right32(a: u64, amount: u64) -> u64
+    ensures { result ≡ shifted_right32 a amount }
+{
+    word32(u64::from(low_half(a)) >> (amount % 32))
+}
+
+/// The low 32 bits shifted to the right by the low five bits of the amount, with their sign brought in.
+pub fn shifted_signed32(a: u64, amount: u64) -> u64
+    ensures { result ≡ shifted_signed32 a amount }
+{
+    bits64(low_half(a).cast_signed() >> (amount % 32))
 }

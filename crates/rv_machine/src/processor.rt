@@ -2,7 +2,7 @@
 
 ghost use Rattle.std.specs.Prelude.{◌≡◌, ◌<◌, Some, map, IfOk, IsFalse, OnErr};
 ghost use Rattle.rv_inst.specs.Word.{Fits};
-ghost use Rattle.rv_machine.specs.Groups.{is_control};
+ghost use Rattle.rv_machine.specs.Groups.{is_control, is_immediate, is_register};
 ghost use Rattle.rv_machine.specs.Ticks.{IsTick};
 ghost use Rattle.rv_model.specs.Memory.{word_at};
 ghost use Rattle.rv_model.specs.Run.{flipped};
@@ -12,7 +12,8 @@ ghost use Rattle.rv_model.specs.Step.{act, called, fetched, linked, Continues, b
 
 use crate::memory::{EXECUTED, MemorySegment, bytes_at};
 use crate::operations::{
-    even_part, less_signed, shifted_left, shifted_right, shifted_signed, truth,
+    even_part, less_signed, minus32, plus32, shifted_left, shifted_left32, shifted_right,
+    shifted_right32, shifted_signed, shifted_signed32, truth,
 };
 use crate::runner::Output;
 use crate::values::{bits64, shift_amount, upper_value};
@@ -200,7 +201,7 @@ impl Machine {
     #[tactic(auto, unfolding(rv_model::specs::Step::act))]
     fn compute(&mut self, form: Form) -> Tick
         requires fits { Fits form }
-        requires group { IsFalse (is_control form) }
+        requires no_control { IsFalse (is_control form) }
         ensures { IsTick result (act form self.old) self.old self.new }
     {
         match form {
@@ -223,6 +224,29 @@ impl Machine {
             Form::SRAI(rd, rs1, imm) => {
                 self.put(rd, shifted_signed(self.register(rs1), shift_amount(imm)))
             }
+            Form::ADDIW(rd, rs1, imm) => self.put(rd, plus32(self.register(rs1), bits64(imm))),
+            Form::SLLIW(rd, rs1, imm) => {
+                self.put(rd, shifted_left32(self.register(rs1), shift_amount(imm)))
+            }
+            Form::SRLIW(rd, rs1, imm) => {
+                self.put(rd, shifted_right32(self.register(rs1), shift_amount(imm)))
+            }
+            Form::SRAIW(rd, rs1, imm) => {
+                self.put(rd, shifted_signed32(self.register(rs1), shift_amount(imm)))
+            }
+            _ => self.compute_on_registers(form),
+        }
+    }
+
+    /// Executes an operation on two registers.
+    #[tactic(auto, unfolding(rv_model::specs::Step::act))]
+    fn compute_on_registers(&mut self, form: Form) -> Tick
+        requires fits { Fits form }
+        requires no_control { IsFalse (is_control form) }
+        requires no_immediate { IsFalse (is_immediate form) }
+        ensures { IsTick result (act form self.old) self.old self.new }
+    {
+        match form {
             Form::ADD(rd, rs1, rs2) => {
                 self.put(rd, self.register(rs1).wrapping_add(self.register(rs2)))
             }
@@ -233,20 +257,52 @@ impl Machine {
                 self.put(rd, shifted_left(self.register(rs1), self.register(rs2)))
             }
             Form::SLT(rd, rs1, rs2) => {
-                self.put(rd, truth(less_signed(self.register(rs1), self.register(rs2))))
+                self.put(
+                    rd,
+                    truth(less_signed(self.register(rs1), self.register(rs2))),
+                )
             }
             Form::SLTU(rd, rs1, rs2) => {
                 self.put(rd, truth(self.register(rs1) < self.register(rs2)))
             }
-            Form::XOR(rd, rs1, rs2) => self.put(rd, self.register(rs1) ^ self.register(rs2)),
+            Form::XOR(rd, rs1, rs2) => { self.put(rd, self.register(rs1) ^ self.register(rs2)) }
             Form::SRL(rd, rs1, rs2) => {
                 self.put(rd, shifted_right(self.register(rs1), self.register(rs2)))
             }
             Form::SRA(rd, rs1, rs2) => {
                 self.put(rd, shifted_signed(self.register(rs1), self.register(rs2)))
             }
-            Form::OR(rd, rs1, rs2) => self.put(rd, self.register(rs1) | self.register(rs2)),
-            Form::AND(rd, rs1, rs2) => self.put(rd, self.register(rs1) & self.register(rs2)),
+            Form::OR(rd, rs1, rs2) => { self.put(rd, self.register(rs1) | self.register(rs2)) }
+            Form::AND(rd, rs1, rs2) => { self.put(rd, self.register(rs1) & self.register(rs2)) }
+            _ => self.compute_on_words(form),
+        }
+    }
+
+    /// Executes an operation on the low 32 bits of two registers.
+    #[tactic(auto, unfolding(rv_model::specs::Step::act))]
+    fn compute_on_words(&mut self, form: Form) -> Tick
+        requires fits { Fits form }
+        requires no_control { IsFalse (is_control form) }
+        requires no_immediate { IsFalse (is_immediate form) }
+        requires no_register { IsFalse (is_register form) }
+        ensures { IsTick result (act form self.old) self.old self.new }
+    {
+        match form {
+            Form::ADDW(rd, rs1, rs2) => {
+                self.put(rd, plus32(self.register(rs1), self.register(rs2)))
+            }
+            Form::SUBW(rd, rs1, rs2) => {
+                self.put(rd, minus32(self.register(rs1), self.register(rs2)))
+            }
+            Form::SLLW(rd, rs1, rs2) => {
+                self.put(rd, shifted_left32(self.register(rs1), self.register(rs2)))
+            }
+            Form::SRLW(rd, rs1, rs2) => {
+                self.put(rd, shifted_right32(self.register(rs1), self.register(rs2)))
+            }
+            Form::SRAW(rd, rs1, rs2) => {
+                self.put(rd, shifted_signed32(self.register(rs1), self.register(rs2)))
+            }
             _ => Tick::Trapped(self.pc(), Cause::Illegal),
         }
     }

@@ -3,7 +3,7 @@
 ghost use Rattle.std.specs.Prelude.{◌≡◌, ◌^◌};
 ghost use Rattle.rv_inst.specs.Word.{IsBelow};
 ghost use Rattle.rv_inst.specs.Format.{unsigned};
-ghost use Rattle.rv_model.specs.Operations.{bits64, upper_value};
+ghost use Rattle.rv_model.specs.Operations.{bits64, sign_extended, upper_value};
 
 /// The bits above the lowest 32, all set.
 const ALL_ABOVE_WORD: u64 = 0xffff_ffff_0000_0000;
@@ -15,17 +15,23 @@ pub fn bits64(number: i32) -> u64
     i64::from(number).cast_unsigned()
 }
 
+/// A word of 32 bits extended to 64 by its sign.
+pub fn sign_extended(word: u32) -> u64
+    ensures { result ≡ sign_extended (2 ^ 31) word }
+{
+    if word < 1 << 31 {
+        u64::from(word)
+    } else {
+        u64::from(word) + ALL_ABOVE_WORD
+    }
+}
+
 /// The value of LUI: its 20 bits above 12 zeros, extended by their sign.
 pub fn upper_value(field: i32) -> u64
     requires { IsBelow (2 ^ 20) field }
     ensures { result ≡ upper_value field }
 {
-    let word = (field as u64) << 12;
-    if word < 1 << 31 {
-        word
-    } else {
-        word + ALL_ABOVE_WORD
-    }
+    sign_extended((field as u32) << 12)
 }
 
 /// The amount of a shift by a constant.

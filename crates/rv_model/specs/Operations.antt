@@ -2,6 +2,7 @@
 use Rattle.std.specs.Prelude.{ℕ, ℤ, Bool, ◌+◌, ◌-◌, ◌*◌, ◌/◌, ◌%◌, ◌^◌, nat_lt, int_lt, int_le, if◌then◌else◌}
 use Rattle.std.specs.Int.{w32, w64, cast_signed, int_shr}
 use Rattle.rv_inst.specs.Format.{bits_of, unsigned}
+use Rattle.rv_model.specs.State.{plus64}
 
 -- the 64 bits of a signed number
 abbrev pub bits64 : ℤ → ℕ
@@ -52,3 +53,19 @@ shifted_right a amount = a / 2 ^ (amount % 64)
 
 abbrev pub shifted_signed : ℕ → ℕ → ℕ
 shifted_signed a amount = bits64 (int_shr (signed64 a) (amount % 64))
+
+-- the same on the low 32 bits, with the result extended by its sign; amounts are the low five bits
+abbrev pub plus32 : ℕ → ℕ → ℕ
+plus32 a b = word32 (plus64 a b)
+
+abbrev pub minus32 : ℕ → ℕ → ℕ
+minus32 a b = word32 (minus64 a b)
+
+abbrev pub shifted_left32 : ℕ → ℕ → ℕ
+shifted_left32 a amount = word32 (shifted_left a (amount % 32))
+
+abbrev pub shifted_right32 : ℕ → ℕ → ℕ
+shifted_right32 a amount = word32 (a % 2 ^ 32 / 2 ^ (amount % 32))
+
+abbrev pub shifted_signed32 : ℕ → ℕ → ℕ
+shifted_signed32 a amount = bits64 (int_shr (signed32 a) (amount % 32))

@@ -2,12 +2,12 @@
 use Rattle.std.specs.Prelude.{ℕ, ℤ, Bool, ◌%◌, ◌==◌, not, nat_lt, nat_le, int_le, List, Option, Some, None, if◌then◌else◌, bit_and, bit_or, bit_xor}
 use Rattle.byteorder.specs.Endian.{little_number}
 use Rattle.rv_inst.specs.declared.instruction.Form.{Form}
-use Rattle.rv_inst.specs.declared.instruction.Form.TheVariants.{LUI, AUIPC, JAL, JALR, BEQ, BNE, BLT, BGE, BLTU, BGEU, ADDI, SLTI, SLTIU, XORI, ORI, ANDI, SLLI, SRLI, SRAI, ADD, SUB, SLL, SLT, SLTU, XOR, SRL, SRA, OR, AND, ECALL}
+use Rattle.rv_inst.specs.declared.instruction.Form.TheVariants.{LUI, AUIPC, JAL, JALR, BEQ, BNE, BLT, BGE, BLTU, BGEU, ADDI, SLTI, SLTIU, XORI, ORI, ANDI, SLLI, SRLI, SRAI, ADD, SUB, SLL, SLT, SLTU, XOR, SRL, SRA, OR, AND, ADDIW, SLLIW, SRLIW, SRAIW, ADDW, SUBW, SLLW, SRLW, SRAW, ECALL}
 use Rattle.rv_inst.specs.Format.{unsigned}
 use Rattle.rv_inst.specs.Word.{form_at}
 use Rattle.rv_model.specs.declared.Cause.{Cause}
 use Rattle.rv_model.specs.declared.Cause.TheVariants.{Fetch, Illegal, Load, Store, Call}
-use Rattle.rv_model.specs.Operations.{signed64, minus64, less_signed, truth, even_part, shifted_left, shifted_right, shifted_signed}
+use Rattle.rv_model.specs.Operations.{signed64, minus64, less_signed, truth, even_part, shifted_left, shifted_right, shifted_signed, plus32, minus32, shifted_left32, shifted_right32, shifted_signed32}
 use Rattle.rv_model.specs.State.{LoadedSegment, MachineState, register, set_register, plus64, jump, next}
 use Rattle.rv_model.specs.Memory.{word_at}
 pub use Rattle.rv_model.specs.Operations.{bits64, sign_extended, upper_value}
@@ -83,6 +83,15 @@ act (SRL rd rs1 rs2) s = operated shifted_right rd rs1 (register s rs2) s
 act (SRA rd rs1 rs2) s = operated shifted_signed rd rs1 (register s rs2) s
 act (OR rd rs1 rs2) s = operated bit_or rd rs1 (register s rs2) s
 act (AND rd rs1 rs2) s = operated bit_and rd rs1 (register s rs2) s
+act (ADDIW rd rs1 imm) s = operated plus32 rd rs1 (bits64 imm) s
+act (SLLIW rd rs1 amount) s = operated shifted_left32 rd rs1 (unsigned amount) s
+act (SRLIW rd rs1 amount) s = operated shifted_right32 rd rs1 (unsigned amount) s
+act (SRAIW rd rs1 amount) s = operated shifted_signed32 rd rs1 (unsigned amount) s
+act (ADDW rd rs1 rs2) s = operated plus32 rd rs1 (register s rs2) s
+act (SUBW rd rs1 rs2) s = operated minus32 rd rs1 (register s rs2) s
+act (SLLW rd rs1 rs2) s = operated shifted_left32 rd rs1 (register s rs2) s
+act (SRLW rd rs1 rs2) s = operated shifted_right32 rd rs1 (register s rs2) s
+act (SRAW rd rs1 rs2) s = operated shifted_signed32 rd rs1 (register s rs2) s
 act ECALL s = called s
 act _ s = Traps s.pc Illegal
 
