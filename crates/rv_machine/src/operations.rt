@@ -1,7 +1,7 @@
 //! The operations on words of 64 bits.
 
 ghost use Rattle.std.specs.Prelude.{◌≡◌, ◌%◌, ◌^◌};
-ghost use Rattle.rv_model.specs.Operations.{even_part, less_signed, plus32, minus32, shifted_left, shifted_left32, shifted_right, shifted_right32, shifted_signed, shifted_signed32, truth, word32};
+ghost use Rattle.rv_model.specs.Operations.{even_part, less_signed, plus32, minus32, shifted_left, shifted_left32, shifted_right, shifted_right32, shifted_signed, shifted_signed32, times32, quotient, quotient_unsigned, remainder, remainder_unsigned, quotient32, quotient_unsigned32, remainder32, remainder_unsigned32, truth, word32};
 
 use crate::values::{bits64, sign_extended};
 
@@ -58,7 +58,7 @@ fn low_half(a: u64) -> u32
 pub fn word32(a: u64) -> u64
     ensures { result ≡ word32 a }
 {
-    sign_extended(low_half(a))
+    sign_extended(1 << 31, a % (1 << 32))
 }
 
 /// The sum of the low 32 bits, extended by its sign.
@@ -95,4 +95,103 @@ pub fn shifted_signed32(a: u64, amount: u64) -> u64
     ensures { result ≡ shifted_signed32 a amount }
 {
     bits64(low_half(a).cast_signed() >> (amount % 32))
+}
+
+/// The lowest 32 bits of the product, extended by their sign.
+pub fn times32(a: u64, b: u64) -> u64
+    ensures { result ≡ times32 a b }
+{
+    word32(a.wrapping_mul(b))
+}
+
+/// The signed quotient, rounded toward zero; all bits are set where the divisor is zero.
+pub fn quotient(a: u64, b: u64) -> u64
+    ensures { result ≡ quotient a b }
+{
+    if b == 0 {
+        u64::MAX
+    } else {
+        let quotient = a.cast_signed().wrapping_div(b.cast_signed());
+        quotient.cast_unsigned()
+    }
+}
+
+/// The unsigned quotient; all bits are set where the divisor is zero.
+pub fn quotient_unsigned(a: u64, b: u64) -> u64
+    ensures { result ≡ quotient_unsigned a b }
+{
+    if b == 0 { u64::MAX } else { a / b }
+}
+
+/// The signed remainder, with the dividend's sign; the dividend where the divisor is zero.
+pub fn remainder(a: u64, b: u64) -> u64
+    ensures { result ≡ remainder a b }
+{
+    if b == 0 {
+        a
+    } else {
+        let remainder = a.cast_signed().wrapping_rem(b.cast_signed());
+        remainder.cast_unsigned()
+    }
+}
+
+/// The unsigned remainder; the dividend where the divisor is zero.
+pub fn remainder_unsigned(a: u64, b: u64) -> u64
+    ensures { result ≡ remainder_unsigned a b }
+{
+    if b == 0 { a } else { a % b }
+}
+
+/// The signed quotient of the low 32 bits, extended by its sign.
+pub fn quotient32(a: u64, b: u64) -> u64
+    ensures { result ≡ quotient32 a b }
+{
+    let divisor = low_half(b);
+    if divisor == 0 {
+        u64::MAX
+    } else {
+        let quotient = low_half(a)
+            .cast_signed()
+            .wrapping_div(divisor.cast_signed());
+        sign_extended(1 << 31, u64::from(quotient.cast_unsigned()))
+    }
+}
+
+/// The unsigned quotient of the low 32 bits, extended by its sign.
+pub fn quotient_unsigned32(a: u64, b: u64) -> u64
+    ensures { result ≡ quotient_unsigned32 a b }
+{
+    let divisor = b % (1 << 32);
+    if divisor == 0 {
+        u64::MAX
+    } else {
+        word32(a % (1 << 32) / divisor)
+    }
+}
+
+/// The signed remainder of the low 32 bits, extended by its sign.
+pub fn remainder32(a: u64, b: u64) -> u64
+    ensures { result ≡ remainder32 a b }
+{
+    let divisor = low_half(b);
+    if divisor == 0 {
+        word32(a)
+    } else {
+        let remainder = low_half(a)
+            .cast_signed()
+            .wrapping_rem(divisor.cast_signed());
+        sign_extended(1 << 31, u64::from(remainder.cast_unsigned()))
+    }
+}
+
+/// The unsigned remainder of the low 32 bits, extended by its sign.
+pub fn remainder_unsigned32(a: u64, b: u64) -> u64
+    ensures { result ≡ remainder_unsigned32 a b }
+{
+    let divisor = b % (1 << 32);
+    if divisor == 0 {
+        word32(a)
+    } else {
+        word32(a % (1 << 32) % divisor)
+    }
 }

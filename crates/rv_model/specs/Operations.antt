@@ -1,5 +1,5 @@
 -- The operations of RV64I and M on words of 64 bits (RISC-V Unprivileged ISA).
-use Rattle.std.specs.Prelude.{ℕ, ℤ, Bool, ◌+◌, ◌-◌, ◌*◌, ◌/◌, ◌%◌, ◌^◌, nat_lt, int_lt, int_le, if◌then◌else◌}
+use Rattle.std.specs.Prelude.{ℕ, ℤ, Bool, ◌+◌, ◌-◌, ◌*◌, ◌/◌, ◌%◌, ◌^◌, nat_lt, ◌==◌, int_lt, int_div, int_rem, if◌then◌else◌}
 use Rattle.std.specs.Int.{w32, w64, cast_signed, int_shr}
 use Rattle.rv_inst.specs.Format.{bits_of, unsigned}
 use Rattle.rv_model.specs.State.{plus64}
@@ -7,6 +7,10 @@ use Rattle.rv_model.specs.State.{plus64}
 -- the 64 bits of a signed number
 abbrev pub bits64 : ℤ → ℕ
 bits64 z = bits_of (2 ^ 63) z
+
+-- its 32 bits
+abbrev pub bits32 : ℤ → ℕ
+bits32 z = bits_of (2 ^ 31) z
 
 -- the signed number that 64 bits mean
 abbrev pub signed64 : ℕ → ℤ
@@ -69,3 +73,41 @@ shifted_right32 a amount = word32 (a % 2 ^ 32 / 2 ^ (amount % 32))
 
 abbrev pub shifted_signed32 : ℕ → ℕ → ℕ
 shifted_signed32 a amount = bits64 (int_shr (signed32 a) (amount % 32))
+
+-- the lowest 64 bits of a product, and its lowest 32 bits, extended by their sign
+abbrev pub times64 : ℕ → ℕ → ℕ
+times64 a b = a * b % 2 ^ 64
+
+abbrev pub times32 : ℕ → ℕ → ℕ
+times32 a b = word32 (times64 a b)
+
+-- all bits set: the quotient of a division by zero
+abbrev pub all_ones : ℕ
+all_ones = 2 ^ 64 - 1
+
+-- the signed quotient, rounded toward zero; that of the least number by -1 is 2 ^ 63, whose bits are the dividend's
+abbrev pub quotient : ℕ → ℕ → ℕ
+quotient a b = if b == 0 then all_ones else bits64 (int_div (signed64 a) (signed64 b))
+
+abbrev pub quotient_unsigned : ℕ → ℕ → ℕ
+quotient_unsigned a b = if b == 0 then all_ones else a / b
+
+-- the signed remainder, with the dividend's sign; a division by zero leaves the dividend
+abbrev pub remainder : ℕ → ℕ → ℕ
+remainder a b = if b == 0 then a else bits64 (int_rem (signed64 a) (signed64 b))
+
+abbrev pub remainder_unsigned : ℕ → ℕ → ℕ
+remainder_unsigned a b = if b == 0 then a else a % b
+
+-- the same of the low 32 bits, with the result extended by its sign
+abbrev pub quotient32 : ℕ → ℕ → ℕ
+quotient32 a b = if b % 2 ^ 32 == 0 then all_ones else sign_extended (2 ^ 31) (bits32 (int_div (signed32 a) (signed32 b)))
+
+abbrev pub quotient_unsigned32 : ℕ → ℕ → ℕ
+quotient_unsigned32 a b = if b % 2 ^ 32 == 0 then all_ones else word32 (a % 2 ^ 32 / (b % 2 ^ 32))
+
+abbrev pub remainder32 : ℕ → ℕ → ℕ
+remainder32 a b = if b % 2 ^ 32 == 0 then word32 a else sign_extended (2 ^ 31) (bits32 (int_rem (signed32 a) (signed32 b)))
+
+abbrev pub remainder_unsigned32 : ℕ → ℕ → ℕ
+remainder_unsigned32 a b = if b % 2 ^ 32 == 0 then word32 a else word32 (a % 2 ^ 32 % (b % 2 ^ 32))

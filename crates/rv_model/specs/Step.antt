@@ -1,15 +1,15 @@
 -- One instruction (RISC-V Unprivileged ISA, RV64I and M; of the environment's calls the one that ends the program).
-use Rattle.std.specs.Prelude.{ℕ, ℤ, Bool, ◌%◌, ◌==◌, not, nat_lt, nat_le, int_le, List, Option, Some, None, if◌then◌else◌, bit_and, bit_or, bit_xor}
+use Rattle.std.specs.Prelude.{ℕ, ℤ, Bool, ◌%◌, ◌^◌, ◌==◌, not, nat_lt, nat_le, int_le, List, Option, Some, None, if◌then◌else◌, bit_and, bit_or, bit_xor}
 use Rattle.byteorder.specs.Endian.{little_number}
 use Rattle.rv_inst.specs.declared.instruction.Form.{Form}
-use Rattle.rv_inst.specs.declared.instruction.Form.TheVariants.{LUI, AUIPC, JAL, JALR, BEQ, BNE, BLT, BGE, BLTU, BGEU, ADDI, SLTI, SLTIU, XORI, ORI, ANDI, SLLI, SRLI, SRAI, ADD, SUB, SLL, SLT, SLTU, XOR, SRL, SRA, OR, AND, ADDIW, SLLIW, SRLIW, SRAIW, ADDW, SUBW, SLLW, SRLW, SRAW, ECALL}
+use Rattle.rv_inst.specs.declared.instruction.Form.TheVariants.{LUI, AUIPC, JAL, JALR, BEQ, BNE, BLT, BGE, BLTU, BGEU, LB, LH, LW, LD, LBU, LHU, LWU, ADDI, SLTI, SLTIU, XORI, ORI, ANDI, SLLI, SRLI, SRAI, ADD, SUB, SLL, SLT, SLTU, XOR, SRL, SRA, OR, AND, ADDIW, SLLIW, SRLIW, SRAIW, ADDW, SUBW, SLLW, SRLW, SRAW, MUL, DIV, DIVU, REM, REMU, MULW, DIVW, DIVUW, REMW, REMUW, ECALL}
 use Rattle.rv_inst.specs.Format.{unsigned}
 use Rattle.rv_inst.specs.Word.{form_at}
 use Rattle.rv_model.specs.declared.Cause.{Cause}
 use Rattle.rv_model.specs.declared.Cause.TheVariants.{Fetch, Illegal, Load, Store, Call}
-use Rattle.rv_model.specs.Operations.{signed64, minus64, less_signed, truth, even_part, shifted_left, shifted_right, shifted_signed, plus32, minus32, shifted_left32, shifted_right32, shifted_signed32}
+use Rattle.rv_model.specs.Operations.{signed64, minus64, less_signed, truth, even_part, shifted_left, shifted_right, shifted_signed, plus32, minus32, shifted_left32, shifted_right32, shifted_signed32, times64, times32, quotient, quotient_unsigned, remainder, remainder_unsigned, quotient32, quotient_unsigned32, remainder32, remainder_unsigned32}
 use Rattle.rv_model.specs.State.{LoadedSegment, MachineState, register, set_register, plus64, jump, next}
-use Rattle.rv_model.specs.Memory.{word_at}
+use Rattle.rv_model.specs.Memory.{read, bytes_at, word_at}
 pub use Rattle.rv_model.specs.Operations.{bits64, sign_extended, upper_value}
 
 -- what an instruction does: the machine goes on in a new state, the program ends with a status, or it traps at a pc, and nothing is changed
@@ -52,6 +52,14 @@ compared test rs1 rs2 offset s = Continues (branched (test (register s rs1) (reg
 abbrev pub operated : (ℕ → ℕ → ℕ) → ℕ → ℕ → ℕ → MachineState → StepResult
 operated f rd rs1 b s = put rd (f (register s rs1) b) s
 
+-- the address of a load or a store
+abbrev pub address : ℕ → ℤ → MachineState → ℕ
+address rs1 offset s = plus64 (register s rs1) (bits64 offset)
+
+-- a load of count bytes, which are extended to 64 bits
+abbrev pub loads : ℕ → (ℕ → ℕ) → ℕ → ℕ → ℤ → MachineState → StepResult
+loads count extend rd rs1 offset s = loaded (bytes_at read (address rs1 offset s) count s.segments) count extend rd s
+
 -- what an instruction does
 unfoldable pub act : Form → MachineState → StepResult
 act (LUI rd imm) s = put rd (upper_value imm) s
@@ -64,6 +72,13 @@ act (BLT rs1 rs2 offset) s = compared less_signed rs1 rs2 offset s
 act (BGE rs1 rs2 offset) s = compared (λ a b. int_le (signed64 b) (signed64 a)) rs1 rs2 offset s
 act (BLTU rs1 rs2 offset) s = compared nat_lt rs1 rs2 offset s
 act (BGEU rs1 rs2 offset) s = compared (λ a b. nat_le b a) rs1 rs2 offset s
+act (LB rd rs1 offset) s = loads 1 (sign_extended (2 ^ 7)) rd rs1 offset s
+act (LH rd rs1 offset) s = loads 2 (sign_extended (2 ^ 15)) rd rs1 offset s
+act (LW rd rs1 offset) s = loads 4 (sign_extended (2 ^ 31)) rd rs1 offset s
+act (LD rd rs1 offset) s = loads 8 (λ n. n) rd rs1 offset s
+act (LBU rd rs1 offset) s = loads 1 (λ n. n) rd rs1 offset s
+act (LHU rd rs1 offset) s = loads 2 (λ n. n) rd rs1 offset s
+act (LWU rd rs1 offset) s = loads 4 (λ n. n) rd rs1 offset s
 act (ADDI rd rs1 imm) s = operated plus64 rd rs1 (bits64 imm) s
 act (SLTI rd rs1 imm) s = operated (λ a b. truth (less_signed a b)) rd rs1 (bits64 imm) s
 act (SLTIU rd rs1 imm) s = operated (λ a b. truth (nat_lt a b)) rd rs1 (bits64 imm) s
@@ -92,6 +107,16 @@ act (SUBW rd rs1 rs2) s = operated minus32 rd rs1 (register s rs2) s
 act (SLLW rd rs1 rs2) s = operated shifted_left32 rd rs1 (register s rs2) s
 act (SRLW rd rs1 rs2) s = operated shifted_right32 rd rs1 (register s rs2) s
 act (SRAW rd rs1 rs2) s = operated shifted_signed32 rd rs1 (register s rs2) s
+act (MUL rd rs1 rs2) s = operated times64 rd rs1 (register s rs2) s
+act (DIV rd rs1 rs2) s = operated quotient rd rs1 (register s rs2) s
+act (DIVU rd rs1 rs2) s = operated quotient_unsigned rd rs1 (register s rs2) s
+act (REM rd rs1 rs2) s = operated remainder rd rs1 (register s rs2) s
+act (REMU rd rs1 rs2) s = operated remainder_unsigned rd rs1 (register s rs2) s
+act (MULW rd rs1 rs2) s = operated times32 rd rs1 (register s rs2) s
+act (DIVW rd rs1 rs2) s = operated quotient32 rd rs1 (register s rs2) s
+act (DIVUW rd rs1 rs2) s = operated quotient_unsigned32 rd rs1 (register s rs2) s
+act (REMW rd rs1 rs2) s = operated remainder32 rd rs1 (register s rs2) s
+act (REMUW rd rs1 rs2) s = operated remainder_unsigned32 rd rs1 (register s rs2) s
 act ECALL s = called s
 act _ s = Traps s.pc Illegal
 
