@@ -36,7 +36,7 @@ const BRANCHES: &[u32] = &[
 ];
 
 /// One instruction, x5 and x6 before it, and x10 after it.
-const OPERATIONS: [(u32, u64, u64, u64); 62] = [
+const OPERATIONS: [(u32, u64, u64, u64); 96] = [
     // lui x10,524288
     (0x8000_0537, 0, 0, 0xffff_ffff_8000_0000),
     // auipc x10,1
@@ -84,12 +84,7 @@ const OPERATIONS: [(u32, u64, u64, u64); 62] = [
     // add x10,x5,x6
     (0x0062_8533, 0xffff_ffff_ffff_ffff, 1, 0),
     // add x10,x5,x6
-    (
-        0x0062_8533,
-        0x7fff_ffff_ffff_ffff,
-        0x7fff_ffff_ffff_ffff,
-        0xffff_ffff_ffff_fffe,
-    ),
+    (0x0062_8533, 0x7fff_ffff_ffff_ffff, 0x7fff_ffff_ffff_ffff, 0xffff_ffff_ffff_fffe),
     // sub x10,x5,x6
     (0x4062_8533, 0, 1, 0xffff_ffff_ffff_ffff),
     // sub x10,x5,x6
@@ -99,12 +94,7 @@ const OPERATIONS: [(u32, u64, u64, u64); 62] = [
     // sll x10,x5,x6
     (0x0062_9533, 1, 64, 1),
     // sll x10,x5,x6
-    (
-        0x0062_9533,
-        0xffff_ffff_ffff_ffff,
-        32,
-        0xffff_ffff_0000_0000,
-    ),
+    (0x0062_9533, 0xffff_ffff_ffff_ffff, 32, 0xffff_ffff_0000_0000),
     // slt x10,x5,x6
     (0x0062_a533, 0xffff_ffff_ffff_ffff, 0, 1),
     // slt x10,x5,x6
@@ -118,46 +108,21 @@ const OPERATIONS: [(u32, u64, u64, u64); 62] = [
     // sltu x10,x5,x6
     (0x0062_b533, 1, 1, 0),
     // xor x10,x5,x6
-    (
-        0x0062_c533,
-        0x7fff_ffff_ffff_ffff,
-        0xffff_ffff_ffff_ffff,
-        0x8000_0000_0000_0000,
-    ),
+    (0x0062_c533, 0x7fff_ffff_ffff_ffff, 0xffff_ffff_ffff_ffff, 0x8000_0000_0000_0000),
     // srl x10,x5,x6
     (0x0062_d533, 0x8000_0000_0000_0000, 63, 1),
     // srl x10,x5,x6
-    (
-        0x0062_d533,
-        0xffff_ffff_ffff_ffff,
-        64,
-        0xffff_ffff_ffff_ffff,
-    ),
+    (0x0062_d533, 0xffff_ffff_ffff_ffff, 64, 0xffff_ffff_ffff_ffff),
     // sra x10,x5,x6
-    (
-        0x4062_d533,
-        0x8000_0000_0000_0000,
-        63,
-        0xffff_ffff_ffff_ffff,
-    ),
+    (0x4062_d533, 0x8000_0000_0000_0000, 63, 0xffff_ffff_ffff_ffff),
     // sra x10,x5,x6
-    (
-        0x4062_d533,
-        0x8000_0000_0000_0000,
-        31,
-        0xffff_ffff_0000_0000,
-    ),
+    (0x4062_d533, 0x8000_0000_0000_0000, 31, 0xffff_ffff_0000_0000),
     // sra x10,x5,x6
     (0x4062_d533, 0x7fff_ffff_ffff_ffff, 63, 0),
     // or x10,x5,x6
     (0x0062_e533, 0x8000_0000_0000_0000, 1, 0x8000_0000_0000_0001),
     // and x10,x5,x6
-    (
-        0x0062_f533,
-        0xffff_ffff_ffff_ffff,
-        0x7fff_ffff_ffff_ffff,
-        0x7fff_ffff_ffff_ffff,
-    ),
+    (0x0062_f533, 0xffff_ffff_ffff_ffff, 0x7fff_ffff_ffff_ffff, 0x7fff_ffff_ffff_ffff),
     // addiw x10,x5,1
     (0x0012_851b, 0x7fff_ffff, 0, 0xffff_ffff_8000_0000),
     // addiw x10,x5,0
@@ -189,23 +154,81 @@ const OPERATIONS: [(u32, u64, u64, u64); 62] = [
     // sllw x10,x5,x6
     (0x0062_953b, 1, 32, 1),
     // srlw x10,x5,x6
-    (
-        0x0062_d53b,
-        0xffff_ffff_ffff_ffff,
-        32,
-        0xffff_ffff_ffff_ffff,
-    ),
+    (0x0062_d53b, 0xffff_ffff_ffff_ffff, 32, 0xffff_ffff_ffff_ffff),
     // srlw x10,x5,x6
     (0x0062_d53b, 0xffff_ffff_8000_0000, 31, 1),
     // sraw x10,x5,x6
-    (
-        0x4062_d53b,
-        0xffff_ffff_8000_0000,
-        31,
-        0xffff_ffff_ffff_ffff,
-    ),
+    (0x4062_d53b, 0xffff_ffff_8000_0000, 31, 0xffff_ffff_ffff_ffff),
     // sraw x10,x5,x6
     (0x4062_d53b, 0x8000_0000, 63, 0xffff_ffff_ffff_ffff),
+    // mul x10,x5,x6
+    (0x0262_8533, 0xffff_ffff_ffff_ffff, 0xffff_ffff_ffff_ffff, 1),
+    // mul x10,x5,x6
+    (0x0262_8533, 0x8000_0000_0000_0000, 3, 0x8000_0000_0000_0000),
+    // mulw x10,x5,x6
+    (0x0262_853b, 0x7fff_ffff, 2, 0xffff_ffff_ffff_fffe),
+    // mulw x10,x5,x6
+    (0x0262_853b, 0x8000_0000, 1, 0xffff_ffff_8000_0000),
+    // div x10,x5,x6
+    (0x0262_c533, 7, 0, 0xffff_ffff_ffff_ffff),
+    // div x10,x5,x6
+    (0x0262_c533, 0x8000_0000_0000_0000, 0xffff_ffff_ffff_ffff, 0x8000_0000_0000_0000),
+    // div x10,x5,x6
+    (0x0262_c533, 0xffff_ffff_ffff_fff9, 2, 0xffff_ffff_ffff_fffd),
+    // divu x10,x5,x6
+    (0x0262_d533, 0xffff_ffff_ffff_ffff, 0, 0xffff_ffff_ffff_ffff),
+    // divu x10,x5,x6
+    (0x0262_d533, 0xffff_ffff_ffff_ffff, 2, 0x7fff_ffff_ffff_ffff),
+    // rem x10,x5,x6
+    (0x0262_e533, 7, 0, 7),
+    // rem x10,x5,x6
+    (0x0262_e533, 0x8000_0000_0000_0000, 0xffff_ffff_ffff_ffff, 0),
+    // rem x10,x5,x6
+    (0x0262_e533, 0xffff_ffff_ffff_fff9, 2, 0xffff_ffff_ffff_ffff),
+    // remu x10,x5,x6
+    (0x0262_f533, 0xffff_ffff_ffff_ffff, 0, 0xffff_ffff_ffff_ffff),
+    // remu x10,x5,x6
+    (0x0262_f533, 0xffff_ffff_ffff_ffff, 10, 5),
+    // divw x10,x5,x6
+    (0x0262_c53b, 7, 0x0001_0000_0000, 0xffff_ffff_ffff_ffff),
+    // divw x10,x5,x6
+    (0x0262_c53b, 0xffff_ffff_8000_0000, 0xffff_ffff_ffff_ffff, 0xffff_ffff_8000_0000),
+    // divw x10,x5,x6
+    (0x0262_c53b, 0x8000_0000, 1, 0xffff_ffff_8000_0000),
+    // divuw x10,x5,x6
+    (0x0262_d53b, 0xffff_ffff_ffff_ffff, 0, 0xffff_ffff_ffff_ffff),
+    // divuw x10,x5,x6
+    (0x0262_d53b, 0xffff_ffff_ffff_ffff, 1, 0xffff_ffff_ffff_ffff),
+    // divuw x10,x5,x6
+    (0x0262_d53b, 0xffff_ffff_ffff_ffff, 2, 0x7fff_ffff),
+    // remw x10,x5,x6
+    (0x0262_e53b, 0x8000_0000, 0, 0xffff_ffff_8000_0000),
+    // remw x10,x5,x6
+    (0x0262_e53b, 0xffff_ffff_8000_0000, 0xffff_ffff_ffff_ffff, 0),
+    // remw x10,x5,x6
+    (0x0262_e53b, 0xffff_ffff_ffff_fff9, 2, 0xffff_ffff_ffff_ffff),
+    // remuw x10,x5,x6
+    (0x0262_f53b, 0xffff_ffff_ffff_ffff, 0, 0xffff_ffff_ffff_ffff),
+    // remuw x10,x5,x6
+    (0x0262_f53b, 0xffff_ffff_ffff_ffff, 0xffff_ffff_8000_0000, 0x7fff_ffff),
+    // lb x10,0(x5)
+    (0x0002_8503, 0x1000_0000, 0, 0xffff_ffff_ffff_ff81),
+    // lbu x10,3(x5)
+    (0x0032_c503, 0x1000_0000, 0, 0x00b4),
+    // lh x10,0(x5)
+    (0x0002_9503, 0x1000_0000, 0, 0xffff_ffff_ffff_9281),
+    // lhu x10,1(x5)
+    (0x0012_d503, 0x1000_0000, 0, 0xa392),
+    // lw x10,0(x5)
+    (0x0002_a503, 0x1000_0000, 0, 0xffff_ffff_b4a3_9281),
+    // lwu x10,0(x5)
+    (0x0002_e503, 0x1000_0000, 0, 0xb4a3_9281),
+    // lw x10,1(x5)
+    (0x0012_a503, 0x1000_0000, 0, 0x00b4_a392),
+    // ld x10,0(x5)
+    (0x0002_b503, 0x1000_0000, 0, 0xb4a3_9281),
+    // ld x10,1(x5)
+    (0x0012_b503, 0x1000_0000, 0, 0x00b4_a392),
 ];
 
 /// A jump or a branch at 0x1_0000, x5 and x6 before it, and the pc after it.
@@ -247,7 +270,7 @@ const LINK_IN_THE_BASE: &[u32] = &[
 type Answer = Result<(u8, u64), Option<(u64, Cause)>>;
 
 /// A text, how many steps, a flip (instruction, register, bit), and what comes of it.
-const CASES: [(&[u32], u64, Option<(u64, u8, u8)>, Answer); 20] = [
+const CASES: [(&[u32], u64, Option<(u64, u8, u8)>, Answer); 22] = [
     (SEVEN, 3, None, Ok((7, 3))),
     (SEVEN, 9, None, Ok((7, 3))),
     (SEVEN, 3, Some((2, 10, 3)), Ok((15, 3))),
@@ -270,6 +293,20 @@ const CASES: [(&[u32], u64, Option<(u64, u8, u8)>, Answer); 20] = [
     (LINK_IN_THE_BASE, 9, None, Ok((8, 4))),
     // jal x0,6 goes to no multiple of 4
     (&[0x0060_006f], 9, None, Err(Some((0x1_0006, Cause::Fetch)))),
+    // lui x5,65536; ld x10,2(x5) across the end of the data: ld x10,1(x5) is the last that lies there
+    (
+        &[0x1000_02b7, 0x0022_b503],
+        9,
+        None,
+        Err(Some((0x1_0004, Cause::Load))),
+    ),
+    // lb x10,-1(x5) below it
+    (
+        &[0x1000_02b7, 0xfff2_8503],
+        9,
+        None,
+        Err(Some((0x1_0004, Cause::Load))),
+    ),
     // the word 0; fence; one instruction and then zeros; no word at all
     (&[0], 9, None, Err(Some((0x1_0000, Cause::Illegal)))),
     (
@@ -299,7 +336,7 @@ fn answer(outcome: Outcome) -> Option<Answer> {
 fn image_of(alloc: Global, words: &[u32]) -> Result<Image, ElfError>
     requires { length words.now ≤ 100 }
 {
-    let file = write(alloc, words, &[1, 2, 3], 5)?;
+    let file = write(alloc, words, &[0x81, 0x92, 0xa3, 0xb4], 5)?;
     read(alloc, file.as_slice())
 }
 
