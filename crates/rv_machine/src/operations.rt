@@ -1,7 +1,8 @@
 //! The operations on words of 64 bits.
 
-ghost use Rattle.std.specs.Prelude.{◌≡◌, ◌%◌, ◌^◌};
-ghost use Rattle.rv_model.specs.Operations.{even_part, less_signed, plus32, minus32, shifted_left, shifted_left32, shifted_right, shifted_right32, shifted_signed, shifted_signed32, times32, quotient, quotient_unsigned, remainder, remainder_unsigned, quotient32, quotient_unsigned32, remainder32, remainder_unsigned32, truth, word32};
+ghost use Rattle.std.specs.Prelude.{◌≡◌, ◌%◌, ◌^◌, ◌*ℤ◌};
+ghost use Rattle.std.specs.Int.{int_shr};
+ghost use Rattle.rv_model.specs.Operations.{bits64, high_signed, high_mixed, high_unsigned, even_part, less_signed, plus32, minus32, shifted_left, shifted_left32, shifted_right, shifted_right32, shifted_signed, shifted_signed32, times32, quotient, quotient_unsigned, remainder, remainder_unsigned, quotient32, quotient_unsigned32, remainder32, remainder_unsigned32, truth, word32};
 
 use crate::values::{bits64, sign_extended};
 
@@ -194,4 +195,35 @@ pub fn remainder_unsigned32(a: u64, b: u64) -> u64
     } else {
         word32(a % (1 << 32) % divisor)
     }
+}
+
+/// The upper 64 bits of the product of two numbers.
+fn high_of_numbers(a: i64, b: i64) -> u64
+    ensures { result ≡ bits64 (int_shr (a *ℤ b) 64) }
+{
+    let product = a as i128 * b as i128;
+    ((product >> 64) as i64).cast_unsigned()
+}
+
+/// The upper 64 bits of the product of two signed numbers.
+pub fn high_signed(a: u64, b: u64) -> u64
+    ensures { result ≡ high_signed a b }
+{
+    high_of_numbers(a.cast_signed(), b.cast_signed())
+}
+
+/// The upper 64 bits of the product of a signed and an unsigned number.
+pub fn high_mixed(a: u64, b: u64) -> u64
+    ensures { result ≡ high_mixed a b }
+{
+    let product = a.cast_signed() as i128 * b as i128;
+    ((product >> 64) as i64).cast_unsigned()
+}
+
+/// The upper 64 bits of the product of two unsigned numbers.
+pub fn high_unsigned(a: u64, b: u64) -> u64
+    ensures { result ≡ high_unsigned a b }
+{
+    let product = a as u128 * b as u128;
+    (product >> 64) as u64
 }

@@ -13,10 +13,10 @@ ghost use Rattle.rv_model.specs.Step.{act, address, called, fetched, linked, loa
 
 use crate::memory::{EXECUTED, MemorySegment, READ, bytes_at};
 use crate::operations::{
-    even_part, less_signed, minus32, plus32, quotient, quotient_unsigned, quotient_unsigned32,
-    quotient32, remainder, remainder_unsigned, remainder_unsigned32, remainder32, shifted_left,
-    shifted_left32, shifted_right, shifted_right32, shifted_signed, shifted_signed32, times32,
-    truth,
+    even_part, high_mixed, high_signed, high_unsigned, less_signed, minus32, plus32, quotient,
+    quotient_unsigned, quotient_unsigned32, quotient32, remainder, remainder_unsigned,
+    remainder_unsigned32, remainder32, shifted_left, shifted_left32, shifted_right,
+    shifted_right32, shifted_signed, shifted_signed32, times32, truth,
 };
 use crate::runner::Output;
 use crate::values::{bits64, number, shift_amount, sign_extended, upper_value};
@@ -356,6 +356,15 @@ impl Machine {
         match form {
             Form::MUL(rd, rs1, rs2) => {
                 self.put(rd, self.register(rs1).wrapping_mul(self.register(rs2)))
+            }
+            Form::MULH(rd, rs1, rs2) => {
+                self.put(rd, high_signed(self.register(rs1), self.register(rs2)))
+            }
+            Form::MULHSU(rd, rs1, rs2) => {
+                self.put(rd, high_mixed(self.register(rs1), self.register(rs2)))
+            }
+            Form::MULHU(rd, rs1, rs2) => {
+                self.put(rd, high_unsigned(self.register(rs1), self.register(rs2)))
             }
             Form::DIV(rd, rs1, rs2) => {
                 self.put(rd, quotient(self.register(rs1), self.register(rs2)))

@@ -36,7 +36,7 @@ const BRANCHES: &[u32] = &[
 ];
 
 /// One instruction, x5 and x6 before it, and x10 after it.
-const OPERATIONS: [(u32, u64, u64, u64); 96] = [
+const OPERATIONS: [(u32, u64, u64, u64); 104] = [
     // lui x10,524288
     (0x8000_0537, 0, 0, 0xffff_ffff_8000_0000),
     // auipc x10,1
@@ -84,7 +84,12 @@ const OPERATIONS: [(u32, u64, u64, u64); 96] = [
     // add x10,x5,x6
     (0x0062_8533, 0xffff_ffff_ffff_ffff, 1, 0),
     // add x10,x5,x6
-    (0x0062_8533, 0x7fff_ffff_ffff_ffff, 0x7fff_ffff_ffff_ffff, 0xffff_ffff_ffff_fffe),
+    (
+        0x0062_8533,
+        0x7fff_ffff_ffff_ffff,
+        0x7fff_ffff_ffff_ffff,
+        0xffff_ffff_ffff_fffe,
+    ),
     // sub x10,x5,x6
     (0x4062_8533, 0, 1, 0xffff_ffff_ffff_ffff),
     // sub x10,x5,x6
@@ -94,7 +99,12 @@ const OPERATIONS: [(u32, u64, u64, u64); 96] = [
     // sll x10,x5,x6
     (0x0062_9533, 1, 64, 1),
     // sll x10,x5,x6
-    (0x0062_9533, 0xffff_ffff_ffff_ffff, 32, 0xffff_ffff_0000_0000),
+    (
+        0x0062_9533,
+        0xffff_ffff_ffff_ffff,
+        32,
+        0xffff_ffff_0000_0000,
+    ),
     // slt x10,x5,x6
     (0x0062_a533, 0xffff_ffff_ffff_ffff, 0, 1),
     // slt x10,x5,x6
@@ -108,21 +118,46 @@ const OPERATIONS: [(u32, u64, u64, u64); 96] = [
     // sltu x10,x5,x6
     (0x0062_b533, 1, 1, 0),
     // xor x10,x5,x6
-    (0x0062_c533, 0x7fff_ffff_ffff_ffff, 0xffff_ffff_ffff_ffff, 0x8000_0000_0000_0000),
+    (
+        0x0062_c533,
+        0x7fff_ffff_ffff_ffff,
+        0xffff_ffff_ffff_ffff,
+        0x8000_0000_0000_0000,
+    ),
     // srl x10,x5,x6
     (0x0062_d533, 0x8000_0000_0000_0000, 63, 1),
     // srl x10,x5,x6
-    (0x0062_d533, 0xffff_ffff_ffff_ffff, 64, 0xffff_ffff_ffff_ffff),
+    (
+        0x0062_d533,
+        0xffff_ffff_ffff_ffff,
+        64,
+        0xffff_ffff_ffff_ffff,
+    ),
     // sra x10,x5,x6
-    (0x4062_d533, 0x8000_0000_0000_0000, 63, 0xffff_ffff_ffff_ffff),
+    (
+        0x4062_d533,
+        0x8000_0000_0000_0000,
+        63,
+        0xffff_ffff_ffff_ffff,
+    ),
     // sra x10,x5,x6
-    (0x4062_d533, 0x8000_0000_0000_0000, 31, 0xffff_ffff_0000_0000),
+    (
+        0x4062_d533,
+        0x8000_0000_0000_0000,
+        31,
+        0xffff_ffff_0000_0000,
+    ),
     // sra x10,x5,x6
     (0x4062_d533, 0x7fff_ffff_ffff_ffff, 63, 0),
     // or x10,x5,x6
     (0x0062_e533, 0x8000_0000_0000_0000, 1, 0x8000_0000_0000_0001),
     // and x10,x5,x6
-    (0x0062_f533, 0xffff_ffff_ffff_ffff, 0x7fff_ffff_ffff_ffff, 0x7fff_ffff_ffff_ffff),
+    (
+        0x0062_f533,
+        0xffff_ffff_ffff_ffff,
+        0x7fff_ffff_ffff_ffff,
+        0x7fff_ffff_ffff_ffff,
+    ),
     // addiw x10,x5,1
     (0x0012_851b, 0x7fff_ffff, 0, 0xffff_ffff_8000_0000),
     // addiw x10,x5,0
@@ -154,11 +189,21 @@ const OPERATIONS: [(u32, u64, u64, u64); 96] = [
     // sllw x10,x5,x6
     (0x0062_953b, 1, 32, 1),
     // srlw x10,x5,x6
-    (0x0062_d53b, 0xffff_ffff_ffff_ffff, 32, 0xffff_ffff_ffff_ffff),
+    (
+        0x0062_d53b,
+        0xffff_ffff_ffff_ffff,
+        32,
+        0xffff_ffff_ffff_ffff,
+    ),
     // srlw x10,x5,x6
     (0x0062_d53b, 0xffff_ffff_8000_0000, 31, 1),
     // sraw x10,x5,x6
-    (0x4062_d53b, 0xffff_ffff_8000_0000, 31, 0xffff_ffff_ffff_ffff),
+    (
+        0x4062_d53b,
+        0xffff_ffff_8000_0000,
+        31,
+        0xffff_ffff_ffff_ffff,
+    ),
     // sraw x10,x5,x6
     (0x4062_d53b, 0x8000_0000, 63, 0xffff_ffff_ffff_ffff),
     // mul x10,x5,x6
@@ -172,7 +217,12 @@ const OPERATIONS: [(u32, u64, u64, u64); 96] = [
     // div x10,x5,x6
     (0x0262_c533, 7, 0, 0xffff_ffff_ffff_ffff),
     // div x10,x5,x6
-    (0x0262_c533, 0x8000_0000_0000_0000, 0xffff_ffff_ffff_ffff, 0x8000_0000_0000_0000),
+    (
+        0x0262_c533,
+        0x8000_0000_0000_0000,
+        0xffff_ffff_ffff_ffff,
+        0x8000_0000_0000_0000,
+    ),
     // div x10,x5,x6
     (0x0262_c533, 0xffff_ffff_ffff_fff9, 2, 0xffff_ffff_ffff_fffd),
     // divu x10,x5,x6
@@ -192,7 +242,12 @@ const OPERATIONS: [(u32, u64, u64, u64); 96] = [
     // divw x10,x5,x6
     (0x0262_c53b, 7, 0x0001_0000_0000, 0xffff_ffff_ffff_ffff),
     // divw x10,x5,x6
-    (0x0262_c53b, 0xffff_ffff_8000_0000, 0xffff_ffff_ffff_ffff, 0xffff_ffff_8000_0000),
+    (
+        0x0262_c53b,
+        0xffff_ffff_8000_0000,
+        0xffff_ffff_ffff_ffff,
+        0xffff_ffff_8000_0000,
+    ),
     // divw x10,x5,x6
     (0x0262_c53b, 0x8000_0000, 1, 0xffff_ffff_8000_0000),
     // divuw x10,x5,x6
@@ -210,7 +265,43 @@ const OPERATIONS: [(u32, u64, u64, u64); 96] = [
     // remuw x10,x5,x6
     (0x0262_f53b, 0xffff_ffff_ffff_ffff, 0, 0xffff_ffff_ffff_ffff),
     // remuw x10,x5,x6
-    (0x0262_f53b, 0xffff_ffff_ffff_ffff, 0xffff_ffff_8000_0000, 0x7fff_ffff),
+    (
+        0x0262_f53b,
+        0xffff_ffff_ffff_ffff,
+        0xffff_ffff_8000_0000,
+        0x7fff_ffff,
+    ),
+    // mulh x10,x5,x6
+    (0x0262_9533, 0xffff_ffff_ffff_ffff, 0xffff_ffff_ffff_ffff, 0),
+    // mulh x10,x5,x6
+    (
+        0x0262_9533,
+        0x8000_0000_0000_0000,
+        0x8000_0000_0000_0000,
+        0x4000_0000_0000_0000,
+    ),
+    // mulh x10,x5,x6
+    (0x0262_9533, 0x8000_0000_0000_0000, 1, 0xffff_ffff_ffff_ffff),
+    // mulhsu x10,x5,x6
+    (
+        0x0262_a533,
+        0xffff_ffff_ffff_ffff,
+        0xffff_ffff_ffff_ffff,
+        0xffff_ffff_ffff_ffff,
+    ),
+    // mulhsu x10,x5,x6
+    (0x0262_a533, 0x8000_0000_0000_0000, 2, 0xffff_ffff_ffff_ffff),
+    // mulhsu x10,x5,x6
+    (0x0262_a533, 2, 0xffff_ffff_ffff_ffff, 1),
+    // mulhu x10,x5,x6
+    (
+        0x0262_b533,
+        0xffff_ffff_ffff_ffff,
+        0xffff_ffff_ffff_ffff,
+        0xffff_ffff_ffff_fffe,
+    ),
+    // mulhu x10,x5,x6
+    (0x0262_b533, 0x8000_0000_0000_0000, 2, 1),
     // lb x10,0(x5)
     (0x0002_8503, 0x1000_0000, 0, 0xffff_ffff_ffff_ff81),
     // lbu x10,3(x5)

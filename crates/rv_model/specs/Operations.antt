@@ -1,5 +1,5 @@
 -- The operations of RV64I and M on words of 64 bits (RISC-V Unprivileged ISA).
-use Rattle.std.specs.Prelude.{ℕ, ℤ, Bool, ◌+◌, ◌-◌, ◌*◌, ◌/◌, ◌%◌, ◌^◌, nat_lt, ◌==◌, int_lt, int_div, int_rem, if◌then◌else◌}
+use Rattle.std.specs.Prelude.{ℕ, ℤ, pos, ◌*ℤ◌, Bool, ◌+◌, ◌-◌, ◌*◌, ◌/◌, ◌%◌, ◌^◌, nat_lt, ◌==◌, int_lt, int_div, int_rem, if◌then◌else◌}
 use Rattle.std.specs.Int.{w32, w64, cast_signed, int_shr}
 use Rattle.rv_inst.specs.Format.{bits_of, unsigned}
 use Rattle.rv_model.specs.State.{plus64}
@@ -111,3 +111,13 @@ remainder32 a b = if b % 2 ^ 32 == 0 then word32 a else sign_extended (2 ^ 31) (
 
 abbrev pub remainder_unsigned32 : ℕ → ℕ → ℕ
 remainder_unsigned32 a b = if b % 2 ^ 32 == 0 then word32 a else word32 (a % 2 ^ 32 % (b % 2 ^ 32))
+
+-- the upper 64 bits of a product: of signed numbers, of a signed and an unsigned one, and of unsigned ones
+abbrev pub high_signed : ℕ → ℕ → ℕ
+high_signed a b = bits64 (int_shr (signed64 a *ℤ signed64 b) 64)
+
+abbrev pub high_mixed : ℕ → ℕ → ℕ
+high_mixed a b = bits64 (int_shr (signed64 a *ℤ pos b) 64)
+
+abbrev pub high_unsigned : ℕ → ℕ → ℕ
+high_unsigned a b = a * b / 2 ^ 64

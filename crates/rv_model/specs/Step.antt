@@ -2,12 +2,12 @@
 use Rattle.std.specs.Prelude.{ℕ, ℤ, Bool, ◌%◌, ◌^◌, ◌==◌, not, nat_lt, nat_le, int_le, List, Option, Some, None, if◌then◌else◌, bit_and, bit_or, bit_xor}
 use Rattle.byteorder.specs.Endian.{little_number}
 use Rattle.rv_inst.specs.declared.instruction.Form.{Form}
-use Rattle.rv_inst.specs.declared.instruction.Form.TheVariants.{LUI, AUIPC, JAL, JALR, BEQ, BNE, BLT, BGE, BLTU, BGEU, LB, LH, LW, LD, LBU, LHU, LWU, ADDI, SLTI, SLTIU, XORI, ORI, ANDI, SLLI, SRLI, SRAI, ADD, SUB, SLL, SLT, SLTU, XOR, SRL, SRA, OR, AND, ADDIW, SLLIW, SRLIW, SRAIW, ADDW, SUBW, SLLW, SRLW, SRAW, MUL, DIV, DIVU, REM, REMU, MULW, DIVW, DIVUW, REMW, REMUW, ECALL}
+use Rattle.rv_inst.specs.declared.instruction.Form.TheVariants.{LUI, AUIPC, JAL, JALR, BEQ, BNE, BLT, BGE, BLTU, BGEU, LB, LH, LW, LD, LBU, LHU, LWU, ADDI, SLTI, SLTIU, XORI, ORI, ANDI, SLLI, SRLI, SRAI, ADD, SUB, SLL, SLT, SLTU, XOR, SRL, SRA, OR, AND, ADDIW, SLLIW, SRLIW, SRAIW, ADDW, SUBW, SLLW, SRLW, SRAW, MUL, MULH, MULHSU, MULHU, DIV, DIVU, REM, REMU, MULW, DIVW, DIVUW, REMW, REMUW, ECALL}
 use Rattle.rv_inst.specs.Format.{unsigned}
 use Rattle.rv_inst.specs.Word.{form_at}
 use Rattle.rv_model.specs.declared.Cause.{Cause}
 use Rattle.rv_model.specs.declared.Cause.TheVariants.{Fetch, Illegal, Load, Store, Call}
-use Rattle.rv_model.specs.Operations.{signed64, minus64, less_signed, truth, even_part, shifted_left, shifted_right, shifted_signed, plus32, minus32, shifted_left32, shifted_right32, shifted_signed32, times64, times32, quotient, quotient_unsigned, remainder, remainder_unsigned, quotient32, quotient_unsigned32, remainder32, remainder_unsigned32}
+use Rattle.rv_model.specs.Operations.{signed64, minus64, less_signed, truth, even_part, shifted_left, shifted_right, shifted_signed, plus32, minus32, shifted_left32, shifted_right32, shifted_signed32, times64, times32, high_signed, high_mixed, high_unsigned, quotient, quotient_unsigned, remainder, remainder_unsigned, quotient32, quotient_unsigned32, remainder32, remainder_unsigned32}
 use Rattle.rv_model.specs.State.{LoadedSegment, MachineState, register, set_register, plus64, jump, next}
 use Rattle.rv_model.specs.Memory.{read, bytes_at, word_at}
 pub use Rattle.rv_model.specs.Operations.{bits64, sign_extended, upper_value}
@@ -108,6 +108,9 @@ act (SLLW rd rs1 rs2) s = operated shifted_left32 rd rs1 (register s rs2) s
 act (SRLW rd rs1 rs2) s = operated shifted_right32 rd rs1 (register s rs2) s
 act (SRAW rd rs1 rs2) s = operated shifted_signed32 rd rs1 (register s rs2) s
 act (MUL rd rs1 rs2) s = operated times64 rd rs1 (register s rs2) s
+act (MULH rd rs1 rs2) s = operated high_signed rd rs1 (register s rs2) s
+act (MULHSU rd rs1 rs2) s = operated high_mixed rd rs1 (register s rs2) s
+act (MULHU rd rs1 rs2) s = operated high_unsigned rd rs1 (register s rs2) s
 act (DIV rd rs1 rs2) s = operated quotient rd rs1 (register s rs2) s
 act (DIVU rd rs1 rs2) s = operated quotient_unsigned rd rs1 (register s rs2) s
 act (REM rd rs1 rs2) s = operated remainder rd rs1 (register s rs2) s
