@@ -1,2 +1,3 @@
+pub mod LittleNumbers
 pub mod RunSoFar
 pub mod Served

@@ -3,6 +3,7 @@
 #![tactic(auto)]
 
 mod memory;
+mod operations;
 mod processor;
 mod runner;
 #[cfg(test)]

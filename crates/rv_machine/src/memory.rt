@@ -11,6 +11,9 @@ use std::marker::Model;
 /// The flag of a segment whose bytes are executed.
 pub const EXECUTED: u32 = 1;
 
+/// The flag of a segment whose bytes are read.
+pub const READ: u32 = 4;
+
 /// A segment of memory, with the byte at each of its addresses.
 #[derive(Debug, Drop)]
 pub struct MemorySegment {
