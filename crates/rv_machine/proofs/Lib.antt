@@ -1,3 +1,5 @@
+pub mod Calls
 pub mod LittleNumbers
 pub mod RunSoFar
 pub mod Served
+pub mod Storing

@@ -8,13 +8,17 @@ use Rattle.rv_inst.specs.Forms.{kind_of}
 abbrev pub opcode_of : Form → ℕ
 opcode_of i = (row (kind_of i)).opcode
 
--- JAL, JALR, BRANCH and SYSTEM
-abbrev pub is_control : Form → Bool
-is_control i = opcode_of i == 0b1101111 || (opcode_of i == 0b1100111 || (opcode_of i == 0b1100011 || opcode_of i == 0b1110011))
+-- SYSTEM, of which the calls of the environment are
+abbrev pub is_call : Form → Bool
+is_call i = opcode_of i == 0b1110011
 
--- LOAD
-abbrev pub is_load : Form → Bool
-is_load i = opcode_of i == 0b0000011
+-- JAL, JALR and BRANCH
+abbrev pub is_jump : Form → Bool
+is_jump i = opcode_of i == 0b1101111 || (opcode_of i == 0b1100111 || opcode_of i == 0b1100011)
+
+-- LOAD and STORE
+abbrev pub is_access : Form → Bool
+is_access i = opcode_of i == 0b0000011 || opcode_of i == 0b0100011
 
 -- LUI, AUIPC, OP-IMM and OP-IMM-32
 abbrev pub is_immediate : Form → Bool

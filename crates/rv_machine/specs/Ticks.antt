@@ -1,5 +1,5 @@
 -- What a machine reports of a step.
-use Rattle.std.specs.Prelude.{◌≡◌}
+use Rattle.std.specs.Prelude.{◌≡◌, ℕ, ◌<◌, length}
 use Rattle.rv_machine.specs.declared.processor.Tick.{Tick}
 use Rattle.rv_machine.specs.declared.processor.Tick.TheVariants.{Went, Ended, Trapped}
 use Rattle.rv_model.specs.State.{MachineState}
@@ -10,3 +10,9 @@ abbrev pub IsTick : Tick → StepResult → MachineState → MachineState → Ty
 IsTick Went step old new = step ≡ Continues new
 IsTick (Ended status) step old new = (step ≡ Ends status) × (new ≡ old)
 IsTick (Trapped pc cause) step old new = (step ≡ Traps pc cause) × (new ≡ old)
+
+-- the step would put bytes out
+abbrev pub PutsOut : StepResult → MachineState → Type 0
+PutsOut (Continues new) old = length old.out < length new.out
+PutsOut (Ends status) old = ⊥
+PutsOut (Traps pc cause) old = ⊥

@@ -6,9 +6,11 @@ mod memory;
 mod operations;
 mod processor;
 mod runner;
+mod streams;
 #[cfg(test)]
 mod tests;
 mod values;
 
 pub use processor::{Machine, Tick};
-pub use runner::{Outcome, Output, run};
+pub use runner::{Outcome, run};
+pub use streams::Output;

@@ -1,7 +1,8 @@
 //! The memory of the machine.
 
-ghost use Rattle.std.specs.Prelude.{◌≡◌, ◌+◌, ◌-◌, ◌<◌, is_some, length, slice_range, IfOk, IfSome, MatchOption};
-ghost use Rattle.rv_model.specs.Memory.{bytes_at, serves};
+ghost use Rattle.std.specs.Prelude.{◌≡◌, ◌+◌, ◌-◌, ◌<◌, ◌≤◌, is_some, length, slice_range, Some, None, IfOk, IfSome, MatchOption};
+ghost use Rattle.std.specs.Bool.{MatchBool};
+ghost use Rattle.rv_model.specs.Memory.{bytes_at, bytes_for, kept_in, overwritten, serves, stored, written};
 ghost use Rattle.rv_model.specs.Start.{loaded_segment};
 
 use elf_file::Segment;
@@ -10,6 +11,9 @@ use std::marker::Model;
 
 /// The flag of a segment whose bytes are executed.
 pub const EXECUTED: u32 = 1;
+
+/// The flag of a segment whose bytes are written.
+pub const WRITTEN: u32 = 2;
 
 /// The flag of a segment whose bytes are read.
 pub const READ: u32 = 4;
@@ -46,12 +50,12 @@ impl MemorySegment {
         })
     }
 
-    /// The bytes at the address, where the segment has the flag and all of them.
-    fn part(&self, flag: u32, address: u64, count: u64) -> Option<&[u8]>
+    /// Where the bytes at the address begin in the segment, where it has the flag and all of them.
+    fn place_of(&self, flag: u32, address: u64, count: u64) -> Option<usize>
         requires { 0 < flag }
         ensures served { is_some result ≡ serves flag address count self.now }
-        ensures size { IfSome result (λ part. length part.now ≡ count) }
-        ensures bytes { IfSome result (λ part. part.now ≡ slice_range self.now.bytes (address - self.now.base) (address - self.now.base + count)) }
+        ensures from { IfSome result (λ from. from ≡ address - self.now.base) }
+        ensures room { IfSome result (λ from. from + count ≤ length self.now.bytes) }
     {
         let size = self.bytes.len() as u64;
         if self.flags / flag % 2 != 1 || address < self.base {
@@ -61,7 +65,32 @@ impl MemorySegment {
         if size < from || size - from < count {
             return None;
         }
-        Some(&self.bytes[from as usize..(from + count) as usize])
+        Some(from as usize)
+    }
+
+    /// The bytes at the address, where the segment has the flag and all of them.
+    fn part(&self, flag: u32, address: u64, count: u64) -> Option<&[u8]>
+        requires { 0 < flag }
+        ensures served { is_some result ≡ serves flag address count self.now }
+        ensures size { IfSome result (λ part. length part.now ≡ count) }
+        ensures bytes { IfSome result (λ part. part.now ≡ slice_range self.now.bytes (address - self.now.base) (address - self.now.base + count)) }
+    {
+        let from = self.place_of(flag, address, count)?;
+        Some(&self.bytes[from..from + count as usize])
+    }
+
+    /// Writes the bytes at the address, where the segment may be written and has all of them; whether it does.
+    fn overwrite(&mut self, address: u64, bytes: &[u8]) -> bool
+        ensures served { result ≡ serves written address (length bytes.now) self.old }
+        ensures bytes { MatchBool result (self.new ≡ overwritten address bytes.now self.old) (self.new ≡ self.old) }
+    {
+        match self.place_of(WRITTEN, address, bytes.len() as u64) {
+            Some(from) => {
+                self.bytes[from..from + bytes.len()].copy_from_slice(bytes);
+                true
+            }
+            None => false,
+        }
     }
 }
 
@@ -77,4 +106,36 @@ pub fn bytes_at(segments: &[MemorySegment], flag: u32, address: u64, count: u64)
         }
     }
     None
+}
+
+/// The bytes at the address, where a segment that is read has all of them, or where there are none.
+pub fn bytes_for(segments: &[MemorySegment], address: u64, count: u64) -> Option<&[u8]>
+    ensures size { IfSome result (λ bytes. length bytes.now ≡ count) }
+    ensures bytes { MatchOption result (bytes_for address count segments.now ≡ None) (λ bytes. bytes_for address count segments.now ≡ Some bytes.now) }
+{
+    if count == 0 {
+        Some(&[])
+    } else {
+        bytes_at(segments, READ, address, count)
+    }
+}
+
+/// Writes the bytes at the address, where a segment that is written has all of them; whether one has.
+pub fn store(segments: &mut [MemorySegment], address: u64, bytes: &[u8]) -> bool
+    ensures { MatchBool result (stored address bytes.now segments.old ≡ Some segments.new) ((stored address bytes.now segments.old ≡ None) × (segments.new ≡ segments.old)) }
+{
+    for i in 0..segments.len() {
+        if segments[i].overwrite(address, bytes) {
+            return true;
+        }
+    }
+    false
+}
+
+/// Writes the bytes at the address, where a segment that is written has all of them, or where there are
+/// none; whether this was done.
+pub fn keep(segments: &mut [MemorySegment], address: u64, bytes: &[u8]) -> bool
+    ensures { MatchBool result (kept_in address bytes.now segments.old ≡ Some segments.new) ((kept_in address bytes.now segments.old ≡ None) × (segments.new ≡ segments.old)) }
+{
+    bytes.is_empty() || store(segments, address, bytes)
 }

@@ -2,23 +2,24 @@
 
 ghost use Rattle.std.specs.Prelude.{◌≡◌, ◌*◌, ◌^◌, ◌<◌, ◌≤◌, Some, None, map, IfNone, IfOk, IfSome, IsFalse, OnErr};
 ghost use Rattle.rv_inst.specs.Word.{Fits};
-ghost use Rattle.rv_machine.specs.Groups.{is_control, is_immediate, is_load, is_on_words, is_register};
+ghost use Rattle.byteorder.specs.Endian.{little_bytes};
+ghost use Rattle.rv_machine.specs.Groups.{is_access, is_call, is_immediate, is_jump, is_on_words, is_register};
 ghost use Rattle.rv_machine.specs.Numbers.{HasNumber};
-ghost use Rattle.rv_machine.specs.Ticks.{IsTick};
-ghost use Rattle.rv_model.specs.Memory.{bytes_at, read, word_at};
+ghost use Rattle.rv_machine.specs.Ticks.{IsTick, PutsOut};
+ghost use Rattle.rv_model.specs.Memory.{bytes_at, read, stored, word_at};
 ghost use Rattle.rv_model.specs.Run.{flipped};
 ghost use Rattle.rv_model.specs.Start.{loaded_segment, started};
 ghost use Rattle.rv_model.specs.State.{next, register, set_register};
-ghost use Rattle.rv_model.specs.Step.{act, address, called, fetched, linked, loaded, sign_extended, Continues, branched, put, step};
+ghost use Rattle.rv_model.specs.Step.{act, address, called, fetched, kept, linked, loaded, reads_input, sign_extended, writes_output, Continues, branched, put, step};
 
-use crate::memory::{EXECUTED, MemorySegment, READ, bytes_at};
+use crate::memory::{EXECUTED, MemorySegment, READ, bytes_at, bytes_for, keep, store};
 use crate::operations::{
     even_part, high_mixed, high_signed, high_unsigned, less_signed, minus32, plus32, quotient,
     quotient_unsigned, quotient_unsigned32, quotient32, remainder, remainder_unsigned,
     remainder_unsigned32, remainder32, shifted_left, shifted_left32, shifted_right,
     shifted_right32, shifted_signed, shifted_signed32, times32, truth,
 };
-use crate::runner::Output;
+use crate::streams::{Input, Output};
 use crate::values::{bits64, number, shift_amount, sign_extended, upper_value};
 use byteorder::{ByteOrder, LittleEndian};
 use elf_file::{Image, Segment};
@@ -26,6 +27,12 @@ use rv_inst::{Form, decode};
 use rv_model::Cause;
 use std::alloc::{AllocError, Global};
 use std::marker::Model;
+
+/// The number of the call that reads, in x17.
+const READS: u64 = 63;
+
+/// The number of the call that writes, in x17.
+const WRITES: u64 = 64;
 
 /// The number of the call that ends the program, in x17.
 const EXIT: u64 = 93;
@@ -49,7 +56,7 @@ pub struct Machine {
     registers: [u64; 32],
     pc: u64,
     segments: Vec<MemorySegment>,
-    input: Vec<u8>,
+    input: Input,
     out: Output,
 }
 
@@ -58,7 +65,7 @@ impl Model for Machine {
 
     ghost Value = { MachineState };
 
-    ghost view = { λ m. record { regs = m.registers; pc = m.pc; segments = m.segments.items; input = m.input.items; out = m.out } };
+    ghost view = { λ m. record { regs = m.registers; pc = m.pc; segments = m.segments.items; input = m.input; out = m.out } };
 }
 
 /// The segments of memory, each with its bytes of the file and then zeros.
@@ -82,7 +89,7 @@ impl Machine {
             registers: [0; 32],
             pc: image.begin,
             segments: load_segments(alloc, image.segments.as_slice())?,
-            input: Vec::from_slice(alloc, input)?,
+            input: Input::new(alloc, input)?,
             out: Output::new(alloc),
         })
     }
@@ -123,15 +130,16 @@ impl Machine {
     ///
     /// # Errors
     ///
-    /// Memory may be wanted for output; the machine then stays as it was.
+    /// Memory may be wanting for output, and for nothing else; the machine then stays as it was.
     pub fn step(&mut self) -> Result<Tick, AllocError>
         ensures ok { IfOk result (λ tick. IsTick tick (step self.old) self.old self.new) }
         ensures err { OnErr result (self.new ≡ self.old) }
+        ensures wants { OnErr result (PutsOut (step self.old) self.old) }
     {
         let Some(word) = self.word_here() else {
             return Ok(Tick::Trapped(self.pc(), Cause::Fetch));
         };
-        Ok(self.execute(word))
+        self.execute(word)
     }
 
     /// The word at the pc, where one can be executed there.
@@ -147,19 +155,36 @@ impl Machine {
     }
 
     /// Executes the instruction of a word that was fetched.
-    fn execute(&mut self, word: u32) -> Tick
-        ensures { IsTick result (fetched (Some word) self.old) self.old self.new }
+    fn execute(&mut self, word: u32) -> Result<Tick, AllocError>
+        ensures ok { IfOk result (λ tick. IsTick tick (fetched (Some word) self.old) self.old self.new) }
+        ensures err { OnErr result (self.new ≡ self.old) }
+        ensures wants { OnErr result (PutsOut (fetched (Some word) self.old) self.old) }
     {
         match decode(word) {
             Some(instruction) => self.act(instruction.form()),
-            None => Tick::Trapped(self.pc(), Cause::Illegal),
+            None => Ok(Tick::Trapped(self.pc(), Cause::Illegal)),
         }
     }
 
     /// Executes an instruction.
     #[tactic(auto, unfolding(rv_model::specs::Step::act))]
-    fn act(&mut self, form: Form) -> Tick
+    fn act(&mut self, form: Form) -> Result<Tick, AllocError>
         requires { Fits form }
+        ensures ok { IfOk result (λ tick. IsTick tick (act form self.old) self.old self.new) }
+        ensures err { OnErr result (self.new ≡ self.old) }
+        ensures wants { OnErr result (PutsOut (act form self.old) self.old) }
+    {
+        match form {
+            Form::ECALL => self.call(),
+            _ => Ok(self.go(form)),
+        }
+    }
+
+    /// Executes a jump, a branch or an instruction that goes on at the next word.
+    #[tactic(auto, unfolding(rv_model::specs::Step::act))]
+    fn go(&mut self, form: Form) -> Tick
+        requires fits { Fits form }
+        requires no_call { IsFalse (is_call form) }
         ensures { IsTick result (act form self.old) self.old self.new }
     {
         match form {
@@ -195,16 +220,16 @@ impl Machine {
                 let test = self.register(rs1) >= self.register(rs2);
                 self.branch(test, offset)
             }
-            Form::ECALL => self.call(),
-            _ => self.load_or_compute(form),
+            _ => self.access_or_compute(form),
         }
     }
 
-    /// Executes a load, or an instruction that computes.
+    /// Executes a load, a store, or an instruction that computes.
     #[tactic(auto, unfolding(rv_model::specs::Step::act))]
-    fn load_or_compute(&mut self, form: Form) -> Tick
+    fn access_or_compute(&mut self, form: Form) -> Tick
         requires fits { Fits form }
-        requires no_control { IsFalse (is_control form) }
+        requires no_call { IsFalse (is_call form) }
+        requires no_jump { IsFalse (is_jump form) }
         ensures { IsTick result (act form self.old) self.old self.new }
     {
         match form {
@@ -225,6 +250,18 @@ impl Machine {
             Form::LBU(rd, rs1, offset) => self.load_unsigned(rd, self.address(rs1, offset), 1),
             Form::LHU(rd, rs1, offset) => self.load_unsigned(rd, self.address(rs1, offset), 2),
             Form::LWU(rd, rs1, offset) => self.load_unsigned(rd, self.address(rs1, offset), 4),
+            Form::SB(rs1, rs2, offset) => {
+                self.store(self.address(rs1, offset), self.register(rs2), 1)
+            }
+            Form::SH(rs1, rs2, offset) => {
+                self.store(self.address(rs1, offset), self.register(rs2), 2)
+            }
+            Form::SW(rs1, rs2, offset) => {
+                self.store(self.address(rs1, offset), self.register(rs2), 4)
+            }
+            Form::SD(rs1, rs2, offset) => {
+                self.store(self.address(rs1, offset), self.register(rs2), 8)
+            }
             _ => self.compute(form),
         }
     }
@@ -233,8 +270,9 @@ impl Machine {
     #[tactic(auto, unfolding(rv_model::specs::Step::act))]
     fn compute(&mut self, form: Form) -> Tick
         requires fits { Fits form }
-        requires no_control { IsFalse (is_control form) }
-        requires no_load { IsFalse (is_load form) }
+        requires no_call { IsFalse (is_call form) }
+        requires no_jump { IsFalse (is_jump form) }
+        requires no_access { IsFalse (is_access form) }
         ensures { IsTick result (act form self.old) self.old self.new }
     {
         match form {
@@ -275,8 +313,9 @@ impl Machine {
     #[tactic(auto, unfolding(rv_model::specs::Step::act))]
     fn compute_on_registers(&mut self, form: Form) -> Tick
         requires fits { Fits form }
-        requires no_control { IsFalse (is_control form) }
-        requires no_load { IsFalse (is_load form) }
+        requires no_call { IsFalse (is_call form) }
+        requires no_jump { IsFalse (is_jump form) }
+        requires no_access { IsFalse (is_access form) }
         requires no_immediate { IsFalse (is_immediate form) }
         ensures { IsTick result (act form self.old) self.old self.new }
     {
@@ -316,8 +355,9 @@ impl Machine {
     #[tactic(auto, unfolding(rv_model::specs::Step::act))]
     fn compute_on_words(&mut self, form: Form) -> Tick
         requires fits { Fits form }
-        requires no_control { IsFalse (is_control form) }
-        requires no_load { IsFalse (is_load form) }
+        requires no_call { IsFalse (is_call form) }
+        requires no_jump { IsFalse (is_jump form) }
+        requires no_access { IsFalse (is_access form) }
         requires no_immediate { IsFalse (is_immediate form) }
         requires no_register { IsFalse (is_register form) }
         ensures { IsTick result (act form self.old) self.old self.new }
@@ -346,8 +386,9 @@ impl Machine {
     #[tactic(auto, unfolding(rv_model::specs::Step::act))]
     fn multiply(&mut self, form: Form) -> Tick
         requires fits { Fits form }
-        requires no_control { IsFalse (is_control form) }
-        requires no_load { IsFalse (is_load form) }
+        requires no_call { IsFalse (is_call form) }
+        requires no_jump { IsFalse (is_jump form) }
+        requires no_access { IsFalse (is_access form) }
         requires no_immediate { IsFalse (is_immediate form) }
         requires no_register { IsFalse (is_register form) }
         requires no_words { IsFalse (is_on_words form) }
@@ -405,7 +446,7 @@ impl Machine {
                     remainder_unsigned32(self.register(rs1), self.register(rs2)),
                 )
             }
-            _ => Tick::Trapped(self.pc(), Cause::Illegal),
+            _ => unreachable!(),
         }
     }
 
@@ -456,6 +497,21 @@ impl Machine {
         }
     }
 
+    /// Writes the lowest bytes of a value to memory.
+    fn store(&mut self, address: u64, value: u64, count: usize) -> Tick
+        requires { count ≤ 8 }
+        ensures { IsTick result (kept (stored address (little_bytes count value) self.old.segments) self.old) self.old self.new }
+    {
+        let mut bytes = [0; 8];
+        LittleEndian::write_u64(&mut bytes, value);
+        if store(self.segments.as_mut_slice(), address, &bytes[..count]) {
+            self.go_on();
+            Tick::Went
+        } else {
+            Tick::Trapped(self.pc(), Cause::Store)
+        }
+    }
+
     /// Puts the address of the next word into a register, and goes on at the target.
     fn link(&mut self, rd: u8, target: u64) -> Tick
         requires { rd < 32 }
@@ -487,14 +543,52 @@ impl Machine {
     }
 
     /// The environment's call that x17 numbers.
-    fn call(&mut self) -> Tick
-        ensures { IsTick result (called self.old) self.old self.new }
+    fn call(&mut self) -> Result<Tick, AllocError>
+        ensures ok { IfOk result (λ tick. IsTick tick (called self.old) self.old self.new) }
+        ensures err { OnErr result (self.new ≡ self.old) }
+        ensures wants { OnErr result (PutsOut (called self.old) self.old) }
     {
-        if self.register(17) == EXIT {
-            Tick::Ended((self.register(10) % 256) as u8)
+        let number = self.register(17);
+        let first = self.register(10);
+        if number == EXIT {
+            Ok(Tick::Ended((first % 256) as u8))
+        } else if number == READS && first == 0 {
+            Ok(self.read_input())
+        } else if number == WRITES && first == 1 {
+            self.write_output()
         } else {
-            Tick::Trapped(self.pc(), Cause::Call)
+            Ok(Tick::Trapped(self.pc(), Cause::Call))
         }
+    }
+
+    /// The call that reads: the next bytes of the input, at most x12 of them, come to the address in x11.
+    fn read_input(&mut self) -> Tick
+        ensures { IsTick result (reads_input self.old) self.old self.new }
+    {
+        let address = self.register(11);
+        let asked = self.register(12);
+        let rest = self.input.rest();
+        let count = (asked as usize).min(rest.len());
+        if !keep(self.segments.as_mut_slice(), address, &rest[..count]) {
+            return Tick::Trapped(self.pc(), Cause::Store);
+        }
+        self.input.skip(count);
+        self.put(10, count as u64)
+    }
+
+    /// The call that writes: the x12 bytes at the address in x11 are put out.
+    fn write_output(&mut self) -> Result<Tick, AllocError>
+        ensures ok { IfOk result (λ tick. IsTick tick (writes_output self.old) self.old self.new) }
+        ensures err { OnErr result (self.new ≡ self.old) }
+        ensures wants { OnErr result (PutsOut (writes_output self.old) self.old) }
+    {
+        let address = self.register(11);
+        let count = self.register(12);
+        let Some(bytes) = bytes_for(self.segments.as_slice(), address, count) else {
+            return Ok(Tick::Trapped(self.pc(), Cause::Load));
+        };
+        self.out.append(bytes)?;
+        Ok(self.put(10, count))
     }
 
     /// What a register holds.

@@ -1,48 +1,16 @@
 //! Whole runs.
 
 ghost use Rattle.std.specs.Option.{ForSome};
-ghost use Rattle.std.specs.Prelude.{◌≡◌, [], IfOk};
+ghost use Rattle.std.specs.Prelude.{◌≡◌, IfOk};
 ghost use Rattle.rv_machine.specs.Outcomes.{IsOutcome};
 ghost use Rattle.rv_model.specs.Run.{FlipFits, later, run, struck};
 ghost use Rattle.rv_model.specs.Start.{started};
 
 use crate::processor::{Machine, Tick};
+use crate::streams::Output;
 use elf_file::Image;
 use rv_model::{Cause, Flip};
 use std::alloc::{AllocError, Global};
-use std::marker::Model;
-
-/// The bytes that a program has put out.
-#[derive(Debug, Drop)]
-pub struct Output {
-    items: Vec<u8>,
-}
-
-impl Model for Output {
-    ghost use Rattle.std.specs.Prelude.{List, ℕ};
-
-    ghost Value = { List ℕ };
-
-    ghost view = { λ out. out.items.items };
-}
-
-impl Output {
-    /// No output.
-    pub fn new(alloc: Global) -> Output
-        ensures { result ≡ [] }
-    {
-        Output {
-            items: Vec::new(alloc),
-        }
-    }
-
-    /// The bytes, in order.
-    pub fn as_slice(&self) -> &[u8]
-        ensures { result.now ≡ self.now }
-    {
-        self.items.as_slice()
-    }
-}
 
 /// What a run came to.
 #[derive(Debug, Drop)]

@@ -4,7 +4,7 @@ ghost use Rattle.std.specs.Option.{ForSome};
 ghost use Rattle.std.specs.Prelude.{◌<◌, ◌≤◌, length};
 ghost use Rattle.rv_model.specs.Run.{FlipFits};
 
-use crate::{Machine, Outcome, Tick, run};
+use crate::{Machine, Outcome, Output, Tick, run};
 use elf_file::{Bytes, ElfError, Image, Segment, Segments, read, write};
 use rv_model::{Cause, Flip};
 use std::alloc::{AllocError, Global};
@@ -410,17 +410,187 @@ const CASES: [(&[u32], u64, Option<(u64, u8, u8)>, Answer); 22] = [
     (&[], 9, None, Err(Some((0x1_0000, Cause::Fetch)))),
 ];
 
-/// The answer of a run without output.
-fn answer(outcome: Outcome) -> Option<Answer> {
-    let (out, answer) = match outcome {
+/// The words of a program, its input, and what it puts out and comes to; its data are 81 92 a3 b4 and five zeros at 0x1000_0000.
+type Program = (&'static [u32], &'static [u8], &'static [u8], Answer);
+
+/// Stores, and the calls that read and write.
+const PROGRAMS: [Program; 13] = [
+    // lui x5,65536; lui x6,534841; sb x6,0(x5); sd x6,1(x5); sh x6,5(x5); sw x6,5(x5); the data are written; addi x10,x10,-5
+    (
+        &[
+            0x1000_02b7,
+            0x8293_9337,
+            0x0062_8023,
+            0x0062_b0a3,
+            0x0062_92a3,
+            0x0062_a2a3,
+            0x0010_0513,
+            0x1000_05b7,
+            0x0090_0613,
+            0x0400_0893,
+            0x0000_0073,
+            0xffb5_0513,
+            0x05d0_0893,
+            0x0000_0073,
+        ],
+        &[],
+        &[0, 0, 0x90, 0x93, 0x82, 0, 0x90, 0x93, 0x82],
+        Ok((4, 14)),
+    ),
+    // lui x5,65536; addi x6,x0,-2; sb x6,0(x5); sh x6,2(x5); the data are written
+    (
+        &[
+            0x1000_02b7,
+            0xffe0_0313,
+            0x0062_8023,
+            0x0062_9123,
+            0x0010_0513,
+            0x1000_05b7,
+            0x0090_0613,
+            0x0400_0893,
+            0x0000_0073,
+            0x05d0_0893,
+            0x0000_0073,
+        ],
+        &[],
+        &[0xfe, 0x92, 0xfe, 0xff, 0, 0, 0, 0, 0],
+        Ok((9, 11)),
+    ),
+    // the input is read two bytes at a time, and written
+    (ECHO, &[7, 0, 255], &[7, 0, 255], Ok((0, 30))),
+    (ECHO, &[], &[], Ok((0, 8))),
+    // 2^64 - 1 bytes are asked for, and those that came are written
+    (
+        &[
+            0x0000_0513,
+            0x1000_05b7,
+            0xfff0_0613,
+            0x03f0_0893,
+            0x0000_0073,
+            0x0005_0613,
+            0x0010_0513,
+            0x0400_0893,
+            0x0000_0073,
+            0x05d0_0893,
+            0x0000_0073,
+        ],
+        &[1, 2, 3],
+        &[1, 2, 3],
+        Ok((3, 11)),
+    ),
+    // none are read to the address 0, and none written from there
+    (
+        &[
+            0x0000_0513,
+            0x0000_0613,
+            0x03f0_0893,
+            0x0000_0073,
+            0x0000_0613,
+            0x0010_0513,
+            0x0400_0893,
+            0x0000_0073,
+            0x05d0_0893,
+            0x0000_0073,
+        ],
+        &[1, 2, 3],
+        &[],
+        Ok((0, 10)),
+    ),
+    // a byte is read into the text, which may not be written; at the end of the input none is
+    (
+        READ_INTO_THE_TEXT,
+        &[1],
+        &[],
+        Err(Some((0x1_0010, Cause::Store))),
+    ),
+    (READ_INTO_THE_TEXT, &[], &[], Ok((0, 7))),
+    // ten bytes are written of the nine of the data
+    (
+        &[
+            0x0010_0513,
+            0x1000_05b7,
+            0x00a0_0613,
+            0x0400_0893,
+            0x0000_0073,
+        ],
+        &[],
+        &[],
+        Err(Some((0x1_0010, Cause::Load))),
+    ),
+    // the data are written, and then to a place that is no output
+    (
+        &[
+            0x0010_0513,
+            0x1000_05b7,
+            0x0090_0613,
+            0x0400_0893,
+            0x0000_0073,
+            0x0020_0513,
+            0x0400_0893,
+            0x0000_0073,
+        ],
+        &[],
+        &[0x81, 0x92, 0xa3, 0xb4, 0, 0, 0, 0, 0],
+        Err(Some((0x1_001c, Cause::Call))),
+    ),
+    // lui x5,65536; sd x5,2(x5) across the end of the data
+    (
+        &[0x1000_02b7, 0x0052_b123],
+        &[],
+        &[],
+        Err(Some((0x1_0004, Cause::Store))),
+    ),
+    // lui x5,16; sw x5,0(x5) into the text
+    (
+        &[0x0001_02b7, 0x0052_a023],
+        &[],
+        &[],
+        Err(Some((0x1_0004, Cause::Store))),
+    ),
+    // lui x5,65536; sb x5,-1(x5) below the data
+    (
+        &[0x1000_02b7, 0xfe52_8fa3],
+        &[],
+        &[],
+        Err(Some((0x1_0004, Cause::Store))),
+    ),
+];
+
+/// addi x10,x0,0; lui x11,65536; addi x12,x0,2; addi x17,x0,63; ecall; beq x10,x0,24; addi x12,x10,0;
+/// addi x10,x0,1; addi x17,x0,64; ecall; jal x0,-40; addi x17,x0,93; ecall
+const ECHO: &[u32] = &[
+    0x0000_0513,
+    0x1000_05b7,
+    0x0020_0613,
+    0x03f0_0893,
+    0x0000_0073,
+    0x0005_0c63,
+    0x0005_0613,
+    0x0010_0513,
+    0x0400_0893,
+    0x0000_0073,
+    0xfd9f_f06f,
+    0x05d0_0893,
+    0x0000_0073,
+];
+
+/// addi x10,x0,0; lui x11,16; addi x12,x0,1; addi x17,x0,63; ecall; addi x17,x0,93; ecall
+const READ_INTO_THE_TEXT: &[u32] = &[
+    0x0000_0513,
+    0x0001_05b7,
+    0x0010_0613,
+    0x03f0_0893,
+    0x0000_0073,
+    0x05d0_0893,
+    0x0000_0073,
+];
+
+/// What a run put out, and its answer.
+fn answer(outcome: Outcome) -> (Output, Answer) {
+    match outcome {
         Outcome::Ended { out, status, steps } => (out, Ok((status, steps))),
         Outcome::Trap { pc, cause, out } => (out, Err(Some((pc, cause)))),
         Outcome::StepsOver { out } => (out, Err(None)),
-    };
-    if out.as_slice().is_empty() {
-        Some(answer)
-    } else {
-        None
     }
 }
 
@@ -447,22 +617,32 @@ fn flip_of(struck: Option<(u64, u8, u8)>) -> Option<Flip>
 fn answer_of(
     alloc: Global,
     words: &[u32],
+    input: &[u8],
     steps: u64,
     flip: Option<Flip>,
-) -> Result<Option<Answer>, ElfError>
+) -> Result<(Output, Answer), ElfError>
     requires words { length words.now ≤ 100 }
     requires flip { ForSome flip FlipFits }
 {
     let image = image_of(alloc, words)?;
-    Ok(answer(run(alloc, &image, &[4, 5], steps, flip)?))
+    Ok(answer(run(alloc, &image, input, steps, flip)?))
 }
 
 #[test]
 fn runs(rt: HostRuntime) -> Result<(), Fail> {
     for (words, steps, struck, wanted) in CASES {
         assert!(rt; words.len() <= 100);
-        let found = answer_of(rt.alloc(), words, steps, flip_of(struck))?;
-        assert!(rt; found == Some(wanted), "{steps} steps of {words:?}");
+        let (out, found) = answer_of(rt.alloc(), words, &[4, 5], steps, flip_of(struck))?;
+        assert!(rt;
+            found == wanted && out.as_slice().is_empty(),
+            "{steps} steps of {words:?}"
+        );
+    }
+    for (words, input, put_out, wanted) in PROGRAMS {
+        assert!(rt; words.len() <= 100);
+        let (out, found) = answer_of(rt.alloc(), words, input, 99, None)?;
+        assert!(rt; found == wanted, "{words:?} on {input:?}");
+        assert_eq!(rt; out.as_slice(), put_out, "{words:?} on {input:?}");
     }
     Ok(())
 }

@@ -1,15 +1,15 @@
--- One instruction (RISC-V Unprivileged ISA, RV64I and M; of the environment's calls the one that ends the program).
-use Rattle.std.specs.Prelude.{ℕ, ℤ, Bool, ◌%◌, ◌^◌, ◌==◌, not, nat_lt, nat_le, int_le, List, Option, Some, None, if◌then◌else◌, bit_and, bit_or, bit_xor}
-use Rattle.byteorder.specs.Endian.{little_number}
+-- One instruction (RISC-V Unprivileged ISA, RV64I and M), and the three calls of the environment.
+use Rattle.std.specs.Prelude.{ℕ, ℤ, Bool, ◌%◌, ◌^◌, ◌==◌, ◌&&◌, ◌++◌, min, not, nat_lt, nat_le, int_le, List, length, take, drop, Option, Some, None, if◌then◌else◌, bit_and, bit_or, bit_xor}
+use Rattle.byteorder.specs.Endian.{little_bytes, little_number}
 use Rattle.rv_inst.specs.declared.instruction.Form.{Form}
-use Rattle.rv_inst.specs.declared.instruction.Form.TheVariants.{LUI, AUIPC, JAL, JALR, BEQ, BNE, BLT, BGE, BLTU, BGEU, LB, LH, LW, LD, LBU, LHU, LWU, ADDI, SLTI, SLTIU, XORI, ORI, ANDI, SLLI, SRLI, SRAI, ADD, SUB, SLL, SLT, SLTU, XOR, SRL, SRA, OR, AND, ADDIW, SLLIW, SRLIW, SRAIW, ADDW, SUBW, SLLW, SRLW, SRAW, MUL, MULH, MULHSU, MULHU, DIV, DIVU, REM, REMU, MULW, DIVW, DIVUW, REMW, REMUW, ECALL}
+use Rattle.rv_inst.specs.declared.instruction.Form.TheVariants.{LUI, AUIPC, JAL, JALR, BEQ, BNE, BLT, BGE, BLTU, BGEU, LB, LH, LW, LD, LBU, LHU, LWU, SB, SH, SW, SD, ADDI, SLTI, SLTIU, XORI, ORI, ANDI, SLLI, SRLI, SRAI, ADD, SUB, SLL, SLT, SLTU, XOR, SRL, SRA, OR, AND, ADDIW, SLLIW, SRLIW, SRAIW, ADDW, SUBW, SLLW, SRLW, SRAW, MUL, MULH, MULHSU, MULHU, DIV, DIVU, REM, REMU, MULW, DIVW, DIVUW, REMW, REMUW, ECALL}
 use Rattle.rv_inst.specs.Format.{unsigned}
 use Rattle.rv_inst.specs.Word.{form_at}
 use Rattle.rv_model.specs.declared.Cause.{Cause}
 use Rattle.rv_model.specs.declared.Cause.TheVariants.{Fetch, Illegal, Load, Store, Call}
 use Rattle.rv_model.specs.Operations.{signed64, minus64, less_signed, truth, even_part, shifted_left, shifted_right, shifted_signed, plus32, minus32, shifted_left32, shifted_right32, shifted_signed32, times64, times32, high_signed, high_mixed, high_unsigned, quotient, quotient_unsigned, remainder, remainder_unsigned, quotient32, quotient_unsigned32, remainder32, remainder_unsigned32}
 use Rattle.rv_model.specs.State.{LoadedSegment, MachineState, register, set_register, plus64, jump, next}
-use Rattle.rv_model.specs.Memory.{read, bytes_at, word_at}
+use Rattle.rv_model.specs.Memory.{read, bytes_at, bytes_for, kept_in, stored, word_at}
 pub use Rattle.rv_model.specs.Operations.{bits64, sign_extended, upper_value}
 
 -- what an instruction does: the machine goes on in a new state, the program ends with a status, or it traps at a pc, and nothing is changed
@@ -32,9 +32,33 @@ abbrev pub kept : Option (List LoadedSegment) → MachineState → StepResult
 kept None s = Traps s.pc Store
 kept (Some segments) s = Continues (next (record s { segments = segments }))
 
--- the environment's call that x17 numbers: 93 ends the program with the lowest byte of x10
+-- memory has the next count bytes of the input, and x10 their number
+abbrev pub received : Option (List LoadedSegment) → ℕ → MachineState → StepResult
+received None count s = Traps s.pc Store
+received (Some segments) count s = put 10 count (record s { segments = segments; input = drop count s.input })
+
+-- the call that reads: as many bytes as x12 asks for, or all that are left, come to the address in x11
+abbrev pub reads_input : MachineState → StepResult
+reads_input s =
+    received (kept_in (register s 11) (take (register s 12) s.input) s.segments) (min (register s 12) (length s.input)) s
+
+-- the bytes are put out, and x10 has their number
+abbrev pub sent : Option (List ℕ) → MachineState → StepResult
+sent None s = Traps s.pc Load
+sent (Some bytes) s = put 10 (length bytes) (record s { out = s.out ++ bytes })
+
+-- the call that writes: the x12 bytes at the address in x11 are put out
+abbrev pub writes_output : MachineState → StepResult
+writes_output s = sent (bytes_for (register s 11) (register s 12) s.segments) s
+
+-- the environment's call that x17 numbers: 93 ends the program with the lowest byte of x10, 63 reads where x10 is 0, and 64 writes
+-- where x10 is 1
 abbrev pub called : MachineState → StepResult
-called s = if register s 17 == 93 then Ends (register s 10 % 256) else Traps s.pc Call
+called s =
+    if register s 17 == 93 then Ends (register s 10 % 256)
+    else if register s 17 == 63 && register s 10 == 0 then reads_input s
+    else if register s 17 == 64 && register s 10 == 1 then writes_output s
+    else Traps s.pc Call
 
 -- the state after a branch: it goes on at the offset where the test holds, else at the next word
 abbrev pub branched : Bool → ℤ → MachineState → MachineState
@@ -60,6 +84,10 @@ address rs1 offset s = plus64 (register s rs1) (bits64 offset)
 abbrev pub loads : ℕ → (ℕ → ℕ) → ℕ → ℕ → ℤ → MachineState → StepResult
 loads count extend rd rs1 offset s = loaded (bytes_at read (address rs1 offset s) count s.segments) count extend rd s
 
+-- a store of the lowest count bytes of rs2
+abbrev pub stores : ℕ → ℕ → ℕ → ℤ → MachineState → StepResult
+stores count rs1 rs2 offset s = kept (stored (address rs1 offset s) (little_bytes count (register s rs2)) s.segments) s
+
 -- what an instruction does
 unfoldable pub act : Form → MachineState → StepResult
 act (LUI rd imm) s = put rd (upper_value imm) s
@@ -79,6 +107,10 @@ act (LD rd rs1 offset) s = loads 8 (λ n. n) rd rs1 offset s
 act (LBU rd rs1 offset) s = loads 1 (λ n. n) rd rs1 offset s
 act (LHU rd rs1 offset) s = loads 2 (λ n. n) rd rs1 offset s
 act (LWU rd rs1 offset) s = loads 4 (λ n. n) rd rs1 offset s
+act (SB rs1 rs2 offset) s = stores 1 rs1 rs2 offset s
+act (SH rs1 rs2 offset) s = stores 2 rs1 rs2 offset s
+act (SW rs1 rs2 offset) s = stores 4 rs1 rs2 offset s
+act (SD rs1 rs2 offset) s = stores 8 rs1 rs2 offset s
 act (ADDI rd rs1 imm) s = operated plus64 rd rs1 (bits64 imm) s
 act (SLTI rd rs1 imm) s = operated (λ a b. truth (less_signed a b)) rd rs1 (bits64 imm) s
 act (SLTIU rd rs1 imm) s = operated (λ a b. truth (nat_lt a b)) rd rs1 (bits64 imm) s
@@ -121,7 +153,6 @@ act (DIVUW rd rs1 rs2) s = operated quotient_unsigned32 rd rs1 (register s rs2) 
 act (REMW rd rs1 rs2) s = operated remainder32 rd rs1 (register s rs2) s
 act (REMUW rd rs1 rs2) s = operated remainder_unsigned32 rd rs1 (register s rs2) s
 act ECALL s = called s
-act _ s = Traps s.pc Illegal
 
 abbrev pub decoded : Option Form → MachineState → StepResult
 decoded None s = Traps s.pc Illegal

@@ -1,5 +1,5 @@
-use Rattle.std.proofs.Common.{ap, refl, subst, sym, ◌∙◌}
-use Rattle.rv_machine.specs.Ticks.{IsTick}
+use Rattle.std.proofs.Common.{IfOk, OnErr, ap, refl, subst, sym, ◌∙◌}
+use Rattle.rv_machine.specs.Ticks.{IsTick, PutsOut}
 use Rattle.rv_model.specs.declared.Cause.TheVariants.{Fetch}
 use Rattle.rv_model.specs.Step.{StepResult, Traps}
 use Rattle.rv_machine.proofs.Served.{step-no_word, step-word}
@@ -11,5 +11,10 @@ returns-in_default-clause-ok c =
 
 pub returns-clause-ok : goal.returns-clause-ok
 returns-clause-ok c =
-    let Ticked : StepResult → Type 0 = λ step. IsTick c.execute.result step c.args.self.now c.execute.new.self in
-    subst Ticked (sym (step-word c.args.self.now c.in-Some.word c.in-Some.ensures)) c.execute.ensures
+    let Ticked : StepResult → Type 0 = λ step. IfOk c.execute.result (λ tick. IsTick tick step c.args.self.now c.execute.new.self) in
+    subst Ticked (sym (step-word c.args.self.now c.in-Some.word c.in-Some.ensures)) c.execute.ensures.ok
+
+pub returns-clause-wants : goal.returns-clause-wants
+returns-clause-wants c =
+    let Wanting : StepResult → Type 0 = λ step. OnErr c.execute.result (PutsOut step c.args.self.now) in
+    subst Wanting (sym (step-word c.args.self.now c.in-Some.word c.in-Some.ensures)) c.execute.ensures.wants
