@@ -1,5 +1,5 @@
 -- What a machine reports of a step.
-use Rattle.std.specs.Prelude.{◌≡◌, ℕ, ◌<◌, length}
+use Rattle.std.specs.Prelude.{◌≡◌, ◌<◌, length}
 use Rattle.rv_machine.specs.declared.processor.Tick.{Tick}
 use Rattle.rv_machine.specs.declared.processor.Tick.TheVariants.{Went, Ended, Trapped}
 use Rattle.rv_model.specs.State.{MachineState}

@@ -5,7 +5,7 @@ use Rattle.byteorder.specs.Endian.{little_bytes}
 use Rattle.rv_model.specs.declared.Cause.TheVariants.{Store}
 use Rattle.rv_model.specs.Memory.{stored}
 use Rattle.rv_model.specs.State.{LoadedSegment, MachineState, next}
-use Rattle.rv_model.specs.Step.{StepResult, Continues, Traps, kept}
+use Rattle.rv_model.specs.Step.{Continues, Traps, kept}
 use Rattle.rv_machine.proofs.Storing.{take-bytes_low_first}
 use Rattle.rv_machine.proofs.processor.Machine.store.Goals as goal
 
