@@ -42,6 +42,13 @@ impl Output {
     {
         self.items.as_slice()
     }
+
+    /// The bytes, of an output that is done with.
+    pub fn into_bytes(self) -> Vec<u8>
+        ensures { result.items ≡ self }
+    {
+        self.items
+    }
 }
 
 /// What a run came to.

@@ -3,10 +3,14 @@
 
 mod compile;
 mod edge;
+mod execute;
 mod first_form;
 mod job;
+mod loading;
 mod points;
 mod program;
+#[cfg(test)]
+mod run_tests;
 mod status;
 #[cfg(test)]
 mod tests;
