@@ -1,5 +1,5 @@
 -- What a hole of eight zero-padded hexadecimal digits writes.
-use Rattle.std.proofs.Common.{◌≡◌, ◌-◌, ◌^◌, ℕ, List, [], false, arith}
+use Rattle.std.proofs.Common.{◌≡◌, ◌-◌, ◌^◌, ℕ, [], false, arith}
 use Rattle.std.proofs.lemmas.List.{append-nil}
 use Rattle.std.specs.Fmt.{padded_integral, format_spec, char_count, digits}
 use Rattle.swiftr_cli.specs.Hexadecimal.{eight_digits}

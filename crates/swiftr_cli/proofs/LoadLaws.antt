@@ -1,5 +1,5 @@
 -- An executable and an input that are told to be there are those that are read.
-use Rattle.std.proofs.Common.{◌≡◌, ◌<◌, ◌≤◌, ℕ, List, inl, inr, refl, sym, ◌∙◌, ap, subst, arith, Option, Some, None, Result, Ok, Err, IsSome, length, codes}
+use Rattle.std.proofs.Common.{◌≡◌, ◌<◌, ℕ, List, inl, inr, sym, ◌∙◌, ap, arith, Option, Some, None, Result, Ok, Err, IsSome, length}
 use Rattle.sr_base.specs.Files.{Files, Holds}
 use Rattle.elf_file.specs.Image.{ProgramImage}
 use Rattle.elf_file.specs.Reading.{reading_of}
