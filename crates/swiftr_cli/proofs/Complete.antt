@@ -1,14 +1,15 @@
 -- What can be done is done, where no fault comes and memory suffices: each other status has a cause against it.
-use Rattle.std.proofs.Common.{◌≡◌, ℕ, List, inl, inr, refl, arith, subst, sym, ◌∙◌, ap, Option, Some, None, IsSome}
+use Rattle.std.proofs.Common.{◌≡◌, ℕ, List, [], inl, inr, refl, arith, subst, sym, ◌∙◌, ap, Option, Some, None, IsSome}
 use Rattle.sr_base.specs.Files.{Files, held, Holds}
 use Rattle.sr_base.specs.Meanings.{StoreMeaning, SinkMeaning}
-use Rattle.swiftr_cli.specs.Words.{Form, compile, execute}
+use Rattle.swiftr_cli.specs.Words.{Form, compile, execute, disasm}
 use Rattle.rv_model.specs.declared.Flip.{Flip}
 use Rattle.rv_model.specs.Run.{run}
 use Rattle.rv_model.specs.Start.{started}
 use Rattle.swiftr_cli.specs.Gives.{IsAccepted, RefusesText}
 use Rattle.swiftr_cli.specs.Loads.{RefusesLoad, LacksLoad}
 use Rattle.swiftr_cli.specs.Runs.{Runs, run_status}
+use Rattle.swiftr_cli.specs.Disasm.{Disassembles}
 use Rattle.swiftr_cli.specs.Yield.{Yield}
 use Rattle.swiftr_cli.proofs.LoadLaws.{one_load, load_not_refused, load_there}
 use Rattle.swiftr_cli.specs.Answers.{IsCausedBy, IsComplete}
@@ -46,6 +47,13 @@ run_not_refused files program kind input steps flip status given told (image, co
 run_there : (files : Option Files) (program : List ℕ) (input : Option (List ℕ)) (steps : ℕ) (flip : Option Flip) (status : Status) (given : Yield) → IsSome files → Runs files program input steps flip status given → LacksLoad files program input → ⊥
 run_there files program input steps flip status given told (image, content, loaded, answered) = load_there files program input image content told loaded
 
+-- nor is one whose words are listed
+listed_not_refused : (files : Option Files) (program kind : List ℕ) (given : Yield) → IsSome files → Disassembles files program given → RefusesLoad files program None kind → ⊥
+listed_not_refused files program kind given told (image, loaded, is_given) = load_not_refused files program kind None image [] told loaded
+
+listed_there : (files : Option Files) (program : List ℕ) (given : Yield) → IsSome files → Disassembles files program given → LacksLoad files program None → ⊥
+listed_there files program given told (image, loaded, is_given) = load_there files program None image [] told loaded
+
 not_stopped : Done ≡ Stopped → ⊥
 not_stopped e = cc
 
@@ -76,3 +84,12 @@ completes (execute program input steps flip) WriteFault s s' o o' n n' cause = �
 completes (execute program input steps flip) NoMemory s s' o o' n n' cause = λ can faultless. inr refl
 completes (execute program input steps flip) Absent s s' o o' n n' cause = λ (told, (given, gives)) faultless.
     absurd (run_there s.files program input steps flip Done given told gives cause)
+completes (disasm program) Done s s' o o' n n' cause = λ can faultless. inl refl
+completes (disasm program) Usage s s' o o' n n' cause = absurd cause
+completes (disasm program) Refused s s' o o' n n' (kind, refuses) = λ (told, (given, gives)) faultless. absurd (listed_not_refused s.files program kind given told gives refuses)
+completes (disasm program) Stopped s s' o o' n n' cause = absurd cause.1
+completes (disasm program) StepsOver s s' o o' n n' cause = absurd cause.1
+completes (disasm program) ReadFault s s' o o' n n' cause = λ can faultless. absurd (faultless.0 cause)
+completes (disasm program) WriteFault s s' o o' n n' cause = λ can faultless. absurd (faultless.1 cause.1)
+completes (disasm program) NoMemory s s' o o' n n' cause = λ can faultless. inr refl
+completes (disasm program) Absent s s' o o' n n' cause = λ (told, (given, gives)) faultless. absurd (listed_there s.files program given told gives cause)

@@ -9,6 +9,7 @@ pub mod Yield
 pub mod Hexadecimal
 pub mod Loads
 pub mod Runs
+pub mod Disasm
 pub mod Gives
 pub mod Answers
 pub mod Jobs

@@ -2,6 +2,7 @@
 #![tactic(auto)]
 
 mod compile;
+mod disasm;
 mod edge;
 mod execute;
 mod first_form;

@@ -10,6 +10,10 @@ use std::test::Fail;
 /// addi x10,x0,7; addi x17,x0,93; ecall
 const SEVEN: [u32; 3] = [0x0070_0513, 0x05d0_0893, 0x0000_0073];
 
+/// The same, as GNU objdump lists them.
+const SEVEN_LISTED: &[u8] =
+    b"00010000 00700513 addi x10,x0,7\n00010004 05d00893 addi x17,x0,93\n00010008 00000073 ecall\n";
+
 /// The executable of these words and data.
 fn executable(alloc: Global, words: &[u32], data: &[u8]) -> Result<Vec<u8>, Fail> {
     if words.len() > 100 || data.len() > 100 {
@@ -53,6 +57,11 @@ fn programs(alloc: Global) -> Result<MemStore, Fail> {
         &patched(alloc, &patched(alloc, &apart, 139, 0)?, 138, 1)?,
     )?;
     store.add("large", &patched(alloc, &apart, 163, 0x20)?)?;
+    // The text has eleven bytes in the file; it lies higher; the data are executable too.
+    store.add("odd", &patched(alloc, &seven, 96, 11)?)?;
+    store.add("high", &patched(alloc, &seven, 84, 1)?)?;
+    let data = executable(alloc, &[0xfff1_2e23], b"\x73\x00\x00\x00\x05")?;
+    store.add("two", &patched(alloc, &data, 124, 7)?)?;
     store.add("input", b"input")?;
     store.add("most", &vec![in alloc; b' '; 16_777_216]?)?;
     store.add("long", &vec![in alloc; b' '; 16_777_217]?)?;
@@ -63,7 +72,7 @@ fn programs(alloc: Global) -> Result<MemStore, Fail> {
 fn runs_and_flips(rt: HostRuntime) -> Result<(), Fail> {
     let alloc = rt.alloc();
     let mut store = programs(alloc)?;
-    let rows: [(&str, u8, &[u8]); 44] = [
+    let rows: [(&str, u8, &[u8]); 49] = [
         ("run h.elf - 3", 0, b"ended status=7 steps=3\n"),
         ("run h.elf - 4", 0, b"ended status=7 steps=3\n"),
         ("run h.elf - 4294967295", 0, b"ended status=7 steps=3\n"),
@@ -116,10 +125,32 @@ fn runs_and_flips(rt: HostRuntime) -> Result<(), Fail> {
         ("flip h.elf - 3 02 10 3", 1, b"usage\n"),
         ("flip h.elf - 3 4294967296 1 0", 1, b"usage\n"),
         ("Run h.elf - 3", 1, b"usage\n"),
+        ("disasm -", 1, b"usage\n"),
+        ("disasm ", 1, b"usage\n"),
+        ("disasm", 1, b"usage\n"),
+        ("disasm x.elf", 8, b"absent\n"),
+        ("disasm cut", 2, b"refused BadSegment\n"),
     ];
     for (line, status, told) in rows {
         let ended = run(alloc, line, &mut store, &[])?;
         ends(&rt, line, ended, status, b"", told);
+    }
+    let listed: [(&str, &[u8]); 5] = [
+        ("disasm h.elf", SEVEN_LISTED),
+        ("disasm odd", cut(SEVEN_LISTED, 65)),
+        ("disasm zero.elf", b"00010000 00000000 word\n"),
+        (
+            "disasm high",
+            b"100010000 00700513 addi x10,x0,7\n100010004 05d00893 addi x17,x0,93\n100010008 00000073 ecall\n",
+        ),
+        (
+            "disasm two",
+            b"00010000 fff12e23 sw x31,-4(x2)\n10000000 00000073 ecall\n",
+        ),
+    ];
+    for (line, text) in listed {
+        let ended = run(alloc, line, &mut store, &[])?;
+        ends(&rt, line, ended, 0, text, b"");
     }
     assert_eq!(rt; store.count(), 0);
     Ok(())
@@ -155,6 +186,13 @@ fn tells_faults_of_runs(rt: HostRuntime) -> Result<(), Fail> {
             let ended = run_noting(alloc, line, &mut store, put as u64)?;
             ends(&rt, line, ended, status, b"", cut(told, put.min(2) * 11));
         }
+    }
+
+    // Each put on `out` fails in turn.
+    for put in 0..SEVEN_LISTED.len().div_ceil(11) {
+        let ended = run(alloc, "disasm h.elf", &mut store, &[put as u64])?;
+        let taken = cut(SEVEN_LISTED, put.min(99) * 11);
+        ends(&rt, "listing", ended, 6, taken, b"write fault\n");
     }
 
     // Each read fails in turn.

@@ -10,6 +10,7 @@ ghost use Rattle.swiftr_cli.specs.Statuses.{status_of};
 ghost use Rattle.swiftr_cli.specs.Answers.{IsCaused, LeavesFiles, PutsOut, Notes, IsComplete, DeliversStill, IsCausedBy, LeavesFilesOf, PutsOutOf, DeliversOf, NotesOf};
 
 use crate::compile::compile;
+use crate::disasm::disasm;
 use crate::execute::execute;
 use crate::job::{Job, finish, tell};
 use crate::status::Status;
@@ -35,6 +36,7 @@ fn make_job<'a, S: Store>(
             steps,
             flip,
         } => execute(alloc, program, input, steps, flip, store),
+        Command::Disasm { program } => disasm(alloc, program, store),
     }
 }
 

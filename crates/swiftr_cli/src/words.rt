@@ -5,7 +5,7 @@ ghost use Rattle.std.specs.Prelude.{◌≡◌, ◌≤◌, map, option_map, strin
 ghost use Rattle.std.specs.Str.{bytes_eq};
 ghost use Rattle.std.specs.Fmt.{decimal};
 ghost use Rattle.rv_model.specs.Run.{FlipFits};
-ghost use Rattle.swiftr_cli.specs.Words.{form_of, three_words, four_words, seven_words, is_name, number_of, within, flip_of, input_of, execution};
+ghost use Rattle.swiftr_cli.specs.Words.{form_of, two_words, three_words, four_words, seven_words, is_name, number_of, within, flip_of, input_of, execution};
 ghost use Rattle.swiftr_cli.specs.Commands.{meant, word_bytes, HasGoodFlip};
 
 use itoa::Buffer;
@@ -26,6 +26,10 @@ pub enum Command<'a> {
         input: Option<&'a str>,
         steps: u64,
         flip: Option<Flip>,
+    },
+    /// `disasm EXE`: lists the words of the executable in the file EXE.
+    Disasm {
+        program: &'a str,
     },
 }
 
@@ -114,6 +118,18 @@ fn parse_execution<'a>(
     }
 }
 
+/// The command of a name and one more word.
+fn parse_two<'a>(command: &str, program: &'a str) -> Option<Command<'a>>
+    ensures meant { option_map meant result ≡ two_words command.now program.now }
+    ensures fits { IfSome result HasGoodFlip }
+{
+    if command == "disasm" && is_name(program) {
+        Some(Command::Disasm { program })
+    } else {
+        None
+    }
+}
+
 /// The command of a name and two more words.
 fn parse_three<'a>(command: &'a str, first: &'a str, second: &'a str) -> Option<Command<'a>>
     ensures meant { option_map meant result ≡ three_words command.now first.now second.now }
@@ -171,6 +187,7 @@ pub fn parse_words(words: &[String]) -> Option<Command<'_>>
     ensures fits { IfSome result HasGoodFlip }
 {
     match words {
+        [command, program] => parse_two(command.as_str(), program.as_str()),
         [command, first, second] => {
             parse_three(command.as_str(), first.as_str(), second.as_str())
         }
