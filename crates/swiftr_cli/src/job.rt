@@ -145,6 +145,7 @@ pub fn finish<S: Store, O: Sink, N: Sink>(
         }
         Ok(Job::Whole { output, text, line }) => match hand_out(&output, &text, store, out) {
             Err(status) => {
+                // The form's own line isn't put where `out` failed.
                 tell(note, status.line());
                 status
             }
