@@ -80,6 +80,13 @@ impl Output {
         self.items.as_slice()
     }
 
+    /// The bytes, of an output that is done with.
+    pub fn into_bytes(self) -> Vec<u8>
+        ensures { result.items ≡ self }
+    {
+        self.items
+    }
+
     /// Appends the bytes.
     ///
     /// # Errors

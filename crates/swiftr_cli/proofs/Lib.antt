@@ -1,6 +1,9 @@
 mod Padding
 mod Literals
 mod JobLaws
+mod LoadLaws
+mod Hexadecimals
+mod Numbers
 mod Complete
 mod PointsText
 mod Delivered

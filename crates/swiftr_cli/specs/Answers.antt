@@ -4,16 +4,16 @@ use Rattle.sr_base.specs.Counts.{Rose}
 use Rattle.sr_base.specs.Bytes.{Takes, TakesPrefix}
 use Rattle.sr_base.specs.Files.{Files, Holds, SameBut}
 use Rattle.sr_base.specs.Meanings.{StoreMeaning, SinkMeaning}
-use Rattle.swiftr_cli.specs.Words.{Form, compile}
+use Rattle.swiftr_cli.specs.Words.{Form, compile, execute, disasm}
 use Rattle.swiftr_cli.specs.Statuses.{line_of, refused_line}
-use Rattle.swiftr_cli.specs.Gives.{Yield, Gives, Refuses, Lacks, output_of, CanBeDone}
+use Rattle.swiftr_cli.specs.Gives.{Yield, Gives, Halts, Refuses, Lacks, output_of, CanBeDone}
 use Rattle.swiftr_cli.specs.declared.status.Status.{Status}
-use Rattle.swiftr_cli.specs.declared.status.Status.TheVariants.{Done, Usage, Refused, ReadFault, WriteFault, NoMemory, Absent}
+use Rattle.swiftr_cli.specs.declared.status.Status.TheVariants.{Done, Usage, Refused, Stopped, StepsOver, ReadFault, WriteFault, NoMemory, Absent}
 
--- a line was put: a prefix was taken, the whole of it unless a count of the sink rose
-pub record Tells (old new : SinkMeaning) (line : List ℕ) : Type 0 where
-  pub prefix : TakesPrefix old.taken new.taken line
-  pub whole : Takes old.taken new.taken line ⊎ (Rose old.faults new.faults ⊎ Rose old.wants new.wants)
+-- a text was put: a prefix was taken, the whole of it unless a count of the sink rose
+pub record Tells (old new : SinkMeaning) (text : List ℕ) : Type 0 where
+  pub prefix : TakesPrefix old.taken new.taken text
+  pub whole : Takes old.taken new.taken text ⊎ (Rose old.faults new.faults ⊎ Rose old.wants new.wants)
 
 -- the file of the name, if there is one, holds the executable, if there is one
 abbrev pub IsWritten : Option (List ℕ) → Option Files → Option (List ℕ) → Type 0
@@ -28,12 +28,16 @@ KeepsOthers (Some name) old new = SameBut name old new
 -- what stands behind a write fault: the store's count, that of `out`, and for some forms that of `note`
 abbrev pub HasWriteFault : Form → StoreMeaning → StoreMeaning → SinkMeaning → SinkMeaning → SinkMeaning → SinkMeaning → Type 0
 HasWriteFault (compile input output) s s' o o' n n' = Rose s.write_faults s'.write_faults ⊎ Rose o.faults o'.faults
+HasWriteFault (execute program input steps flip) s s' o o' n n' = Rose o.faults o'.faults ⊎ Rose n.faults n'.faults
+HasWriteFault (disasm program) s s' o o' n n' = Rose o.faults o'.faults
 
 -- why words of this form end with a status; two causes of different statuses shut one another out
 abbrev pub IsCausedBy : Form → Status → StoreMeaning → StoreMeaning → SinkMeaning → SinkMeaning → SinkMeaning → SinkMeaning → Type 0
 IsCausedBy form Done s s' o o' n n' = (given : Yield) × Gives form s.files given × IsWritten (output_of form) s'.files given.image × Takes o.taken o'.taken given.text
 IsCausedBy form Usage s s' o o' n n' = ⊥
 IsCausedBy form Refused s s' o o' n n' = (kind : List ℕ) × Refuses form s.files kind
+IsCausedBy form Stopped s s' o o' n n' = (given : Yield) × Halts form s.files Stopped given
+IsCausedBy form StepsOver s s' o o' n n' = (given : Yield) × Halts form s.files StepsOver given
 IsCausedBy form ReadFault s s' o o' n n' = Rose s.read_faults s'.read_faults
 IsCausedBy form WriteFault s s' o o' n n' = ((given : Yield) × Gives form s.files given) × HasWriteFault form s s' o o' n n'
 IsCausedBy form NoMemory s s' o o' n n' = Unit {0}
@@ -71,10 +75,12 @@ abbrev pub DeliversStill : Option Form → Status → StoreMeaning → StoreMean
 DeliversStill None status s s' o o' = Unit {0}
 DeliversStill (Some form) status s s' o o' = DeliversOf form status s s' o o'
 
--- what `out` has taken: nothing, or a prefix of the text that the form gives
+-- what `out` has taken: nothing; the output so far, unless a count of it rose; or a prefix of the text that the form gives
 abbrev pub PutsOutOf : Form → Status → StoreMeaning → SinkMeaning → SinkMeaning → Type 0
 PutsOutOf form Usage s o o' = o' ≡ o
 PutsOutOf form Refused s o o' = o' ≡ o
+PutsOutOf form Stopped s o o' = (given : Yield) × Halts form s.files Stopped given × Tells o o' given.text
+PutsOutOf form StepsOver s o o' = (given : Yield) × Halts form s.files StepsOver given × Tells o o' given.text
 PutsOutOf form ReadFault s o o' = o' ≡ o
 PutsOutOf form Absent s o o' = o' ≡ o
 PutsOutOf form status s o o' = (o' ≡ o) ⊎ ((given : Yield) × Gives form s.files given × TakesPrefix o.taken o'.taken given.text)
@@ -83,10 +89,17 @@ abbrev pub PutsOut : Option Form → Status → StoreMeaning → SinkMeaning →
 PutsOut None status s o o' = o' ≡ o
 PutsOut (Some form) status s o o' = PutsOutOf form status s o o'
 
--- what `note` has taken: where all was done the form's own line, which may be none, and else the status's
+-- `note` failed in the form's own line, of which it has taken a prefix and nothing more: this count of it rose
+abbrev pub BreaksOff : Form → StoreMeaning → SinkMeaning → SinkMeaning → ℕ → ℕ → Type 0
+BreaksOff form s n n' count count' = (given : Yield) × Gives form s.files given × TakesPrefix n.taken n'.taken given.line × Rose count count'
+
+-- what `note` has taken: where all was done the form's own line, which may be none, and else the status's line
 abbrev pub NotesOf : Form → Status → StoreMeaning → SinkMeaning → SinkMeaning → Type 0
 NotesOf form Done s n n' = (given : Yield) × Gives form s.files given × Takes n.taken n'.taken given.line × (given.line ≡ [] → n' ≡ n)
 NotesOf form Refused s n n' = (kind : List ℕ) × Refuses form s.files kind × Tells n n' (refused_line kind)
+NotesOf form Stopped s n n' = (given : Yield) × Halts form s.files Stopped given × Tells n n' given.line
+NotesOf form WriteFault s n n' = Tells n n' (line_of WriteFault) ⊎ BreaksOff form s n n' n.faults n'.faults
+NotesOf form NoMemory s n n' = Tells n n' (line_of NoMemory) ⊎ BreaksOff form s n n' n.wants n'.wants
 NotesOf form status s n n' = Tells n n' (line_of status)
 
 abbrev pub Notes : Option Form → Status → StoreMeaning → SinkMeaning → SinkMeaning → Type 0

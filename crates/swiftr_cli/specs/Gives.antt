@@ -1,17 +1,17 @@
 -- What each form of words gives, by the files that the store tells, and why it gives nothing.
-use Rattle.std.specs.Prelude.{◌≡◌, ◌⊎◌, ◌<◌, ◌≤◌, ℕ, ℤ, List, [], length, codes, Option, Some, None}
+use Rattle.std.specs.Prelude.{◌≡◌, ◌⊎◌, ◌<◌, ◌≤◌, ℕ, ℤ, List, [], length, codes, Option, Some, None, IsSome}
 use Rattle.sr_base.specs.Files.{Files, held, Holds}
-use Rattle.swiftr_cli.specs.Words.{Form, compile}
+use Rattle.swiftr_cli.specs.Words.{Form, compile, execute, disasm}
 use Rattle.swiftr_cli.specs.FirstForm.{Returns, exit_status}
 use Rattle.swiftr_cli.specs.Points.{points_text}
 use Rattle.swiftr_cli.specs.Hardened.{IsHardened}
+use Rattle.swiftr_cli.specs.Loads.{RefusesLoad, LacksLoad}
+use Rattle.swiftr_cli.specs.Runs.{Runs}
+use Rattle.swiftr_cli.specs.Disasm.{Disassembles}
 use Rattle.swiftr_cli.specs.declared.points.Point.{Point}
-
--- what a command gives where nothing fails: an executable, what is put on `out`, and the line on `note`
-pub record Yield : Type 0 where
-  pub image : Option (List ℕ)
-  pub text : List ℕ
-  pub line : List ℕ
+use Rattle.swiftr_cli.specs.declared.status.Status.{Status}
+use Rattle.swiftr_cli.specs.declared.status.Status.TheVariants.{Done}
+pub use Rattle.swiftr_cli.specs.Yield.{Yield}
 
 -- the most bytes that a text may have
 abbrev pub most_text : ℕ
@@ -30,6 +30,14 @@ GivesExecutable text given = (number : ℤ) × (bytes : List ℕ) × (points : L
 -- what a form gives
 abbrev pub Gives : Form → Option Files → Yield → Type 0
 Gives (compile input output) files given = (text : List ℕ) × Holds files input (Some text) × GivesExecutable text given
+Gives (execute program input steps flip) files given = Runs files program input steps flip Done given
+Gives (disasm program) files given = Disassembles files program given
+
+-- a program is stopped or goes on, so that the form is answered with this status, and gives this
+abbrev pub Halts : Form → Option Files → Status → Yield → Type 0
+Halts (compile input output) files status given = ⊥
+Halts (execute program input steps flip) files status given = Runs files program input steps flip status given
+Halts (disasm program) files status given = ⊥
 
 -- the kinds of refusal of a text, each exactly where it comes
 abbrev pub RefusesText : List ℕ → List ℕ → Type 0
@@ -40,15 +48,23 @@ RefusesText text kind =
 -- a file that the form reads is refused, by a kind
 abbrev pub Refuses : Form → Option Files → List ℕ → Type 0
 Refuses (compile input output) files kind = (text : List ℕ) × Holds files input (Some text) × RefusesText text kind
+Refuses (execute program input steps flip) files kind = RefusesLoad files program input kind
+Refuses (disasm program) files kind = RefusesLoad files program None kind
 
 -- a file that the form reads is not there
 abbrev pub Lacks : Form → Option Files → Type 0
 Lacks (compile input output) files = Holds files input None
+Lacks (execute program input steps flip) files = LacksLoad files program input
+Lacks (disasm program) files = LacksLoad files program None
 
 -- the name that the form writes to
 abbrev pub output_of : Form → Option (List ℕ)
 output_of (compile input output) = Some output
+output_of (execute program input steps flip) = None
+output_of (disasm program) = None
 
 -- the store tells that the files which the form reads are there, and they are accepted
 abbrev pub CanBeDone : Form → Option Files → Type 0
 CanBeDone (compile input output) files = (text : List ℕ) × (number : ℤ) × (held files input ≡ Some (Some text)) × IsAccepted text number
+CanBeDone (execute program input steps flip) files = IsSome files × ((given : Yield) × Runs files program input steps flip Done given)
+CanBeDone (disasm program) files = IsSome files × ((given : Yield) × Disassembles files program given)

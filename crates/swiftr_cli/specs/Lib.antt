@@ -5,6 +5,11 @@ pub mod FirstForm
 pub mod Program
 pub mod Points
 pub mod Hardened
+pub mod Yield
+pub mod Hexadecimal
+pub mod Loads
+pub mod Runs
+pub mod Disasm
 pub mod Gives
 pub mod Answers
 pub mod Jobs

@@ -1,14 +1,15 @@
 //! What is left to do once all files are read and all texts are made: to write, to put and to tell.
 
-ghost use Rattle.std.specs.Prelude.{◌≡◌, ◌⊎◌, [], IsOk, IsSome, OnOk, OnErr, IfErr, MatchResult};
+ghost use Rattle.std.specs.Prelude.{◌≡◌, ◌⊎◌, [], IsOk, IsSome, OnOk, OnErr, IfOk, IfErr, MatchResult};
 ghost use Rattle.sr_base.specs.Bytes.{Takes, TakesPrefix};
 ghost use Rattle.sr_base.specs.Meanings.{StoreMeaning, SinkMeaning};
 ghost use Rattle.swiftr_cli.specs.Words.{Form};
 ghost use Rattle.swiftr_cli.specs.Answers.{Tells, IsWritten, KeepsOthers, IsCausedBy, LeavesFilesOf, PutsOutOf, DeliversOf, NotesOf};
-ghost use Rattle.swiftr_cli.specs.Jobs.{output_name, output_bytes, FailsBy, FailsInHandOut, IsMade};
+ghost use Rattle.swiftr_cli.specs.Jobs.{output_name, output_bytes, FailsBy, FailsInHandOut, IsMade, IsRefusal};
 
 use crate::status::Status;
 use sr_base::{Sink, SinkError, Store, StoreError, put_all};
+use std::alloc::Global;
 
 /// An executable and the name of the file that is to hold it.
 #[derive(Drop)]
@@ -30,13 +31,33 @@ pub enum Job<'a> {
     Refusal {
         line: Vec<u8>,
     },
+    /// To put the output so far on `out`, and to tell on `note` by this line why the program was stopped.
+    Halt {
+        text: Vec<u8>,
+        line: Vec<u8>,
+    },
+    /// To put the output so far on `out`, and to tell on `note` that the steps are over.
+    Unended {
+        text: Vec<u8>,
+    },
 }
 
-/// Puts a line, and lets a failure be: the status stays, whatever the sink does.
-pub fn tell<N: Sink>(note: &mut N, line: &[u8])
-    ensures { Tells (N.meaning note.old) (N.meaning note.new) line.now }
+/// The job that tells that a file is refused, by a kind.
+pub fn refuse<'a>(alloc: Global, kind: &[u8]) -> Result<Job<'a>, Status>
+    ensures ok { IfOk result (IsRefusal kind.now) }
+    ensures err { IfErr result (λ status. status ≡ Status.NoMemory) }
 {
-    let _ = put_all(note, line);
+    let mut line = Vec::from_slice(alloc, b"refused ")?;
+    line.extend_from_slice(kind)?;
+    line.extend_from_slice(b"\n")?;
+    Ok(Job::Refusal { line })
+}
+
+/// Puts a text, and lets a failure be: the status stays, whatever the sink does.
+pub fn tell<N: Sink>(sink: &mut N, text: &[u8])
+    ensures { Tells (N.meaning sink.old) (N.meaning sink.new) text.now }
+{
+    let _ = put_all(sink, text);
 }
 
 /// Writes the output, if there is one.
@@ -112,8 +133,19 @@ pub fn finish<S: Store, O: Sink, N: Sink>(
             tell(note, &line);
             Status::Refused
         }
+        Ok(Job::Halt { text, line }) => {
+            tell(out, &text);
+            tell(note, &line);
+            Status::Stopped
+        }
+        Ok(Job::Unended { text }) => {
+            tell(out, &text);
+            tell(note, Status::StepsOver.line());
+            Status::StepsOver
+        }
         Ok(Job::Whole { output, text, line }) => match hand_out(&output, &text, store, out) {
             Err(status) => {
+                // The form's own line isn't put where `out` failed.
                 tell(note, status.line());
                 status
             }

@@ -2,11 +2,16 @@
 #![tactic(auto)]
 
 mod compile;
+mod disasm;
 mod edge;
+mod execute;
 mod first_form;
 mod job;
+mod loading;
 mod points;
 mod program;
+#[cfg(test)]
+mod run_tests;
 mod status;
 #[cfg(test)]
 mod tests;

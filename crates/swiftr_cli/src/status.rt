@@ -14,6 +14,10 @@ pub enum Status {
     Usage = 1,
     /// A file that is there was refused.
     Refused = 2,
+    /// The program of a file trapped.
+    Stopped = 3,
+    /// The program of a file hadn't ended when its steps were over.
+    StepsOver = 4,
     /// The store failed to read.
     ReadFault = 5,
     /// The store failed to write, or a sink failed.
@@ -51,6 +55,8 @@ impl Status {
             Status::Done => b"",
             Status::Usage => b"usage\n",
             Status::Refused => b"refused\n",
+            Status::Stopped => b"stopped\n",
+            Status::StepsOver => b"steps over\n",
             Status::ReadFault => b"read fault\n",
             Status::WriteFault => b"write fault\n",
             Status::NoMemory => b"no memory\n",

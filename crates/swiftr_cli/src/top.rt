@@ -1,37 +1,43 @@
 //! The public call: words, a store and two sinks to a status.
 
-ghost use Rattle.std.specs.Prelude.{◌≡◌, ◌≤◌, ◌⊎◌, ◌↔◌, None, Some, map, string_bytes};
+ghost use Rattle.std.specs.Prelude.{◌≡◌, ◌≤◌, ◌⊎◌, ◌↔◌, None, Some, map, string_bytes, MatchResult};
 ghost use Rattle.sr_base.specs.Counts.{Rose};
-ghost use Rattle.swiftr_cli.specs.Words.{form_of, compile as compile_form};
-ghost use Rattle.swiftr_cli.specs.Commands.{meant};
+ghost use Rattle.sr_base.specs.Meanings.{StoreMeaning};
+ghost use Rattle.swiftr_cli.specs.Words.{form_of};
+ghost use Rattle.swiftr_cli.specs.Commands.{meant, HasGoodFlip};
+ghost use Rattle.swiftr_cli.specs.Jobs.{IsJobOf, StopsEarly, IsOnlyRead};
 ghost use Rattle.swiftr_cli.specs.Statuses.{status_of};
 ghost use Rattle.swiftr_cli.specs.Answers.{IsCaused, LeavesFiles, PutsOut, Notes, IsComplete, DeliversStill, IsCausedBy, LeavesFilesOf, PutsOutOf, DeliversOf, NotesOf};
 
 use crate::compile::compile;
-use crate::job::{finish, tell};
+use crate::disasm::disasm;
+use crate::execute::execute;
+use crate::job::{Job, finish, tell};
 use crate::status::Status;
 use crate::words::{Command, parse_words};
 use sr_base::{Sink, Store};
 use std::alloc::Global;
 
-/// Runs `compile IN OUT`.
-fn run_compile<S: Store, O: Sink, N: Sink>(
+/// What a command has to do, once its files are read.
+fn make_job<'a, S: Store>(
     alloc: Global,
-    input: &str,
-    output: &str,
+    command: Command<'a>,
     store: &mut S,
-    out: &mut O,
-    note: &mut N,
-) -> Status
-    ensures cause { IsCausedBy (compile_form input.now output.now) result (S.meaning store.old) (S.meaning store.new) (O.meaning out.old) (O.meaning out.new) (N.meaning note.old) (N.meaning note.new) }
-    ensures files { LeavesFilesOf (compile_form input.now output.now) result (S.meaning store.old) (S.meaning store.new) (O.meaning out.old) (O.meaning out.new) }
-    ensures out { PutsOutOf (compile_form input.now output.now) result (S.meaning store.old) (O.meaning out.old) (O.meaning out.new) }
-    ensures complete { IsComplete (Some (compile_form input.now output.now)) result (S.meaning store.old) (S.meaning store.new) (O.meaning out.old) (O.meaning out.new) (N.meaning note.old) (N.meaning note.new) }
-    ensures delivers { DeliversOf (compile_form input.now output.now) result (S.meaning store.old) (S.meaning store.new) (O.meaning out.old) (O.meaning out.new) }
-    ensures note { NotesOf (compile_form input.now output.now) result (S.meaning store.old) (N.meaning note.old) (N.meaning note.new) }
+) -> Result<Job<'a>, Status>
+    requires { HasGoodFlip command }
+    ensures read { IsOnlyRead (S.meaning store.old) (S.meaning store.new) }
+    ensures job { MatchResult result (IsJobOf (meant command.entry) (S.meaning store.old).files) (StopsEarly (meant command.entry) (S.meaning store.old) (S.meaning store.new)) }
 {
-    let made = compile(alloc, input, output, store);
-    finish(made, store, out, note)
+    match command {
+        Command::Compile { input, output } => compile(alloc, input, output, store),
+        Command::Execute {
+            program,
+            input,
+            steps,
+            flip,
+        } => execute(alloc, program, input, steps, flip, store),
+        Command::Disasm { program } => disasm(alloc, program, store),
+    }
 }
 
 /// Runs a command.
@@ -42,6 +48,7 @@ fn run_command<S: Store, O: Sink, N: Sink>(
     out: &mut O,
     note: &mut N,
 ) -> Status
+    requires { HasGoodFlip command }
     ensures cause { IsCausedBy (meant command.entry) result (S.meaning store.old) (S.meaning store.new) (O.meaning out.old) (O.meaning out.new) (N.meaning note.old) (N.meaning note.new) }
     ensures files { LeavesFilesOf (meant command.entry) result (S.meaning store.old) (S.meaning store.new) (O.meaning out.old) (O.meaning out.new) }
     ensures out { PutsOutOf (meant command.entry) result (S.meaning store.old) (O.meaning out.old) (O.meaning out.new) }
@@ -49,9 +56,8 @@ fn run_command<S: Store, O: Sink, N: Sink>(
     ensures note { NotesOf (meant command.entry) result (S.meaning store.old) (N.meaning note.old) (N.meaning note.new) }
     ensures complete { IsComplete (Some (meant command.entry)) result (S.meaning store.old) (S.meaning store.new) (O.meaning out.old) (O.meaning out.new) (N.meaning note.old) (N.meaning note.new) }
 {
-    match command {
-        Command::Compile { input, output } => run_compile(alloc, input, output, store, out, note),
-    }
+    let made = make_job(alloc, command, store);
+    finish(made, store, out, note)
 }
 
 /// Runs the command that the words are, and answers its status.
@@ -85,11 +91,13 @@ fn run<S: Store, O: Sink, N: Sink>(
 ///
 /// | status | comes | line |
 /// |---|---|---|
-/// | 0 | all was done | none |
+/// | 0 | all was done | none, or how the program ended |
 /// | 1 | the words have none of the forms | `usage` |
 /// | 2 | a file is refused | `refused` and a kind |
+/// | 3 | the program in a file traps | `trap`, the address and the cause |
+/// | 4 | the program hasn't ended within its steps | `steps over` |
 /// | 5 | only where the store counted a read fault | `read fault` |
-/// | 6 | only where the store or `out` counted a fault | `write fault` |
+/// | 6 | only where the store, `out` or `note` counted a fault | `write fault` |
 /// | 7 | for want of memory | `no memory` |
 /// | 8 | a file that is to be read isn't there | `absent` |
 pub fn swiftr<S: Store, O: Sink, N: Sink>(
@@ -116,7 +124,7 @@ pub fn swiftr<S: Store, O: Sink, N: Sink>(
     // The same by numbers, for the statuses that need no more to be said.
     ensures usage { (result ≡ 1) ↔ (form_of (map string_bytes words.now) ≡ None) }
     ensures read_fault { result ≡ 5 → Rose (S.meaning store.old).read_faults (S.meaning store.new).read_faults }
-    ensures write_fault { result ≡ 6 → Rose (S.meaning store.old).write_faults (S.meaning store.new).write_faults ⊎ Rose (O.meaning out.old).faults (O.meaning out.new).faults }
+    ensures write_fault { result ≡ 6 → Rose (S.meaning store.old).write_faults (S.meaning store.new).write_faults ⊎ Rose (O.meaning out.old).faults (O.meaning out.new).faults ⊎ Rose (N.meaning note.old).faults (N.meaning note.new).faults }
 {
     run(alloc, words, store, out, note).code()
 }
