@@ -1,3 +1,5 @@
 mod Padding
 mod PointsText
 mod PointSearch
+mod MarkLemmas
+mod WalkLemmas

@@ -2,6 +2,9 @@
 //! are, whether one is listed, and the text of a list.
 #![tactic(auto)]
 
+mod instructions;
 mod list;
+mod marks;
+mod walk;
 
 pub use list::{Point, outside, points_text, text_determines_points};
