@@ -3,3 +3,5 @@ mod PointsText
 mod PointSearch
 mod MarkLemmas
 mod WalkLemmas
+mod WindowLaws
+mod PointsLaws

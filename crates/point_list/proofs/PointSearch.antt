@@ -43,7 +43,7 @@ then_equal Less s e = absurd (cc)
 then_equal Equal s e = (refl, e)
 then_equal Greater s e = absurd (cc)
 
-same_fields : (p q : Point) → p.pc ≡ q.pc → p.reg ≡ q.reg → p ≡ q
+pub same_fields : (p q : Point) → p.pc ≡ q.pc → p.reg ≡ q.reg → p ≡ q
 same_fields p q e f =
     let first : p ≡ record { pc = q.pc; reg = p.reg } = ap (λ (n : ℕ). record p { pc = n }) e in
     let second : (record { pc = q.pc; reg = p.reg }) ≡ q = ap (λ (n : ℕ). record q { reg = n }) f in

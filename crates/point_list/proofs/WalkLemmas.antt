@@ -1,9 +1,9 @@
 -- What is reached from a word, and what lies on the way, by what is from the next.
-use Rattle.std.proofs.Common.{◌≡◌, ◌<◌, ◌-◌, ◌+◌, ℕ, zero, suc, Bool, true, false, List, Option, Some, None, length, refl, ap, sym, ◌∙◌, subst, arith, get_or}
+use Rattle.std.proofs.Common.{◌≡◌, ◌<◌, ◌-◌, ◌+◌, ℕ, zero, suc, Bool, true, false, List, Option, None, length, refl, ap, sym, ◌∙◌, arith, get_or, add-one}
 use Rattle.std.specs.Prelude.{◌==◌, ◌&&◌, ◌||◌}
 use Rattle.std.proofs.lemmas.List.{get_or_default}
 use Rattle.rv_inst.specs.declared.instruction.Form.{Form}
-use Rattle.point_list.specs.Walk.{instruction_at, uses, holds_later, reaches, on_way}
+use Rattle.point_list.specs.Walk.{instruction_at, uses, holds_later, reaches, on_way, begun_at, begun_before}
 use Rattle.point_list.specs.declared.walk.Value.{Value}
 
 pub reaches_none : (text : List (Option Form)) (base : ℕ) (value : Value) (j : ℕ) → reaches text base value 0 j ≡ false
@@ -79,3 +79,27 @@ pub marks_unreached : (text : List (Option Form)) (base : ℕ) (value : Value) (
     mid ≡ (old || r == value.reg && on_way text base value n j k)
 marks_unreached text base value n j k r old mid some reached m =
     rw (m, on_way_more text base value n j k (omega arith), reached) (marked_false old (r == value.reg) (k == j) (holds_later text base value j (λ m. on_way text base value (n - 1) m k)))
+
+-- no word yet, and one word more
+pub begun_none : (text : List (Option Form)) (base k r : ℕ) (old : Bool) → old ≡ (old || begun_before text base 0 k r)
+unfolding begun_before
+begun_none text base k r true = refl
+begun_none text base k r false = refl
+
+pub begun_zero : (text : List (Option Form)) (base k r : ℕ) → begun_before text base 0 k r ≡ false
+unfolding begun_before
+begun_zero text base k r = refl
+
+pub begun_suc : (text : List (Option Form)) (base n k r : ℕ) → begun_before text base (suc n) k r ≡ (begun_before text base n k r || begun_at text base n k r)
+unfolding begun_before
+begun_suc text base n k r = refl
+
+or_assoc : (a b c : Bool) → (a || b || c) ≡ (a || (b || c))
+or_assoc true b c = refl
+or_assoc false b c = refl
+
+pub begun_more : (text : List (Option Form)) (base n k r : ℕ) (old mid new : Bool) → mid ≡ (old || begun_before text base n k r) → new ≡ (mid || begun_at text base n k r) →
+    new ≡ (old || begun_before text base (n + 1) k r)
+begun_more text base n k r old mid new m e =
+    e ∙ ap (λ b. b || begun_at text base n k r) m ∙ or_assoc old (begun_before text base n k r) (begun_at text base n k r)
+    ∙ ap (λ b. old || b) (sym (begun_suc text base n k r)) ∙ ap (λ i. old || begun_before text base i k r) (sym (add-one n))

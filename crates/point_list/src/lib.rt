@@ -2,9 +2,11 @@
 //! are, whether one is listed, and the text of a list.
 #![tactic(auto)]
 
+mod choose;
 mod instructions;
 mod list;
 mod marks;
 mod walk;
 
+pub use choose::points;
 pub use list::{Point, outside, points_text, text_determines_points};

@@ -1,7 +1,9 @@
 //! Marks: registers of words, kept as a number a word, whose bit r is 1 where register r is marked.
 
-ghost use Rattle.std.specs.Prelude.{◌≡◌, ◌+◌, ◌*◌, ◌<◌, ◌≤◌, ◌^◌, ◌||◌, ◌&&◌, ◌==◌, ℕ, ◌++◌, length, OnOk, IfOk};
-ghost use Rattle.point_list.specs.Marks.{is_marked, points_at, points_of};
+ghost use Rattle.std.specs.Prelude.{◌≡◌, ◌↔◌, ◌+◌, ◌*◌, ◌<◌, ◌≤◌, ◌^◌, ◌||◌, ◌&&◌, ◌==◌, ℕ, ◌++◌, length, Contains, OnOk, IfOk};
+ghost use Rattle.point_list.specs.Marks.{is_marked, points_at, IsMarkedPoint};
+ghost use Rattle.point_list.specs.Points.{AreSorted};
+ghost use Rattle.point_list.specs.declared.list.Point.{Point};
 
 use crate::list::Point;
 use std::alloc::{AllocError, Global};
@@ -39,7 +41,8 @@ fn push_points(points: &mut Vec<Point>, pc: u64, mark: u32) -> Result<(), AllocE
 /// The points of the marks of a text that begins at `base`, by address and then register.
 pub fn marked_points(alloc: Global, base: u64, marks: &[u32]) -> Result<Vec<Point>, AllocError>
     requires { base + 4 * length marks.now < 2 ^ 64 }
-    ensures { IfOk result (λ points. points.items ≡ points_of base marks.now (length marks.now)) }
+    ensures sorted { IfOk result (λ points. AreSorted points.items) }
+    ensures marked { IfOk result (λ points. (p : Point) → Contains points.items p ↔ IsMarkedPoint base marks.now p) }
 {
     let mut points = Vec::new(alloc);
     for (k, mark) in marks.iter().enumerate() {

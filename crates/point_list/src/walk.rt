@@ -2,7 +2,7 @@
 
 ghost use Rattle.std.specs.Prelude.{◌≡◌, ◌+◌, ◌*◌, ◌<◌, ◌≤◌, ◌^◌, ◌||◌, ◌&&◌, ◌==◌, ◌⊎◌, ℕ, IsTrue, Some, length};
 ghost use Rattle.rv_inst.specs.Window.{begins, quiet_next, offset_from};
-ghost use Rattle.point_list.specs.Walk.{index_of, next_index, holds_later, reaches, on_way, begun_by, begun_at};
+ghost use Rattle.point_list.specs.Walk.{index_of, next_index, holds_later, reaches, on_way, begun_by, begun_at, begun_before};
 ghost use Rattle.point_list.specs.Marks.{is_marked};
 
 use crate::instructions::{begins, passes, uses};
@@ -169,4 +169,15 @@ fn mark_from(text: &[Option<Rv>], base: u64, k: usize, marks: &mut [u32])
     let (one, other) = begun_registers(first.form());
     mark_begun(text, base, k, &first, one, marks);
     mark_begun(text, base, k, &first, other, marks);
+}
+
+/// Marks each register at each word of a text up to which it has a window.
+pub fn mark_windows(text: &[Option<Rv>], base: u64, marks: &mut [u32])
+    requires room { base + 4 * length text.now < 2 ^ 64 }
+    requires same { length marks.old ≡ length text.now }
+    ensures { (i r : ℕ) → is_marked marks.new i r ≡ (is_marked marks.old i r || begun_before text.now base (length text.now) i r) }
+{
+    for k in 0..text.len() {
+        mark_from(text, base, k, marks);
+    }
 }

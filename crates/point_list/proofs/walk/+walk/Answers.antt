@@ -1,5 +1,4 @@
-use Rattle.std.proofs.Common.{◌≡◌, ◌||◌, true, sym, ◌∙◌}
-use Rattle.point_list.specs.Walk.{reaches}
+use Rattle.std.proofs.Common.{sym, ◌∙◌}
 use Rattle.point_list.specs.Marks.{is_marked}
 use Rattle.point_list.proofs.WalkLemmas.{no_words, no_marks, reached_is, marks_reached, marks_unreached}
 use Rattle.point_list.proofs.walk.+walk.Goals as goal
