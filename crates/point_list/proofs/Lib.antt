@@ -1,0 +1,7 @@
+mod Padding
+mod PointsText
+mod PointSearch
+mod MarkLemmas
+mod WalkLemmas
+mod WindowLaws
+mod PointsLaws

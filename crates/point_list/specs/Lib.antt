@@ -1,0 +1,3 @@
+pub mod Points
+pub mod Walk
+pub mod Marks
