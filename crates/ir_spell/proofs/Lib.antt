@@ -1,0 +1,7 @@
+pub mod Firsts
+pub mod Joining
+pub mod Names
+pub mod Numbers
+pub mod SymbolTokens
+pub mod Walks
+pub mod WordTexts

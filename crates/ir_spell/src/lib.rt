@@ -1,0 +1,17 @@
+//! The printed form of symbols, and the law that it is read as the same symbols.
+#![tactic(auto)]
+
+ghost use Rattle.std.specs.Prelude.{◌≡◌, List, ℕ, ◌++◌};
+ghost use Rattle.ir_lex.specs.declared.token.Token.{Token};
+ghost use Rattle.ir_lex.specs.Symbols.{Symbol, symbols_of};
+ghost use Rattle.ir_lex.specs.Tokens.{AreTokens};
+ghost use Rattle.ir_spell.specs.Printed.{joined, ArePrintable, Spaced, laid_out, symbols_in, AreApart, AreBlanks};
+ghost use Rattle.ir_spell.specs.Spells.{Spells};
+
+/// Printed symbols are read as they were, in a row and laid out on lines: whatever the tokens of such a
+/// text are, they mean these symbols.
+pub fn printed_symbols_are_read()
+    ensures in_a_row { (ss : List Symbol) → ArePrintable ss → Spells (joined ss) ss }
+    ensures on_lines { (xs : List Spaced) (tail : List ℕ) → ArePrintable (symbols_in xs) → AreApart xs → AreBlanks tail → Spells (laid_out xs ++ tail) (symbols_in xs) }
+    ensures no_others { (text : List ℕ) (ss : List Symbol) (toks : List Token) → Spells text ss → AreTokens text toks → symbols_of text toks ≡ ss }
+{}
