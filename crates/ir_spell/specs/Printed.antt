@@ -8,76 +8,85 @@ use Rattle.ir_words.specs.declared.words.Keyword.TheVariants.{HeaderLine, Declar
 use Rattle.ir_lex.specs.Bytes.{is_name_byte, is_punct, is_blank}
 use Rattle.ir_lex.specs.Symbols.{Symbol, KeywordSymbol, LocalSymbol, GlobalSymbol, LabelSymbol, NumberSymbol, TextSymbol, MarkSymbol, OtherSymbol}
 
--- the word that stands for a keyword; none where many words stand for it, or where it is not of the language
+-- the word that stands for a keyword, of an integer type what stands before its width; none where many words stand for it, or where it is not of the language
+abbrev pub keyword_head : Keyword → List ℕ
+keyword_head Declare = codes "declare"
+keyword_head Call = codes "call"
+keyword_head (Integer width) = codes "i"
+keyword_head «Type» = codes "type"
+keyword_head Global = codes "global"
+keyword_head Constant = codes "constant"
+keyword_head Define = codes "define"
+keyword_head X = codes "x"
+keyword_head Void = codes "void"
+keyword_head Ptr = codes "ptr"
+keyword_head Phi = codes "phi"
+keyword_head Add = codes "add"
+keyword_head Sub = codes "sub"
+keyword_head Mul = codes "mul"
+keyword_head Shl = codes "shl"
+keyword_head Udiv = codes "udiv"
+keyword_head Sdiv = codes "sdiv"
+keyword_head Lshr = codes "lshr"
+keyword_head Ashr = codes "ashr"
+keyword_head Urem = codes "urem"
+keyword_head Srem = codes "srem"
+keyword_head And = codes "and"
+keyword_head Or = codes "or"
+keyword_head Xor = codes "xor"
+keyword_head Nuw = codes "nuw"
+keyword_head Nsw = codes "nsw"
+keyword_head Exact = codes "exact"
+keyword_head InBounds = codes "inbounds"
+keyword_head Icmp = codes "icmp"
+keyword_head Select = codes "select"
+keyword_head Zext = codes "zext"
+keyword_head Sext = codes "sext"
+keyword_head Trunc = codes "trunc"
+keyword_head To = codes "to"
+keyword_head Freeze = codes "freeze"
+keyword_head Alloca = codes "alloca"
+keyword_head Load = codes "load"
+keyword_head Store = codes "store"
+keyword_head GetElementPtr = codes "getelementptr"
+keyword_head Br = codes "br"
+keyword_head Label = codes "label"
+keyword_head Switch = codes "switch"
+keyword_head Ret = codes "ret"
+keyword_head Unreachable = codes "unreachable"
+keyword_head Eq = codes "eq"
+keyword_head Ne = codes "ne"
+keyword_head Ugt = codes "ugt"
+keyword_head Uge = codes "uge"
+keyword_head Ult = codes "ult"
+keyword_head Ule = codes "ule"
+keyword_head Sgt = codes "sgt"
+keyword_head Sge = codes "sge"
+keyword_head Slt = codes "slt"
+keyword_head Sle = codes "sle"
+keyword_head True = codes "true"
+keyword_head False = codes "false"
+keyword_head Null = codes "null"
+keyword_head Undef = codes "undef"
+keyword_head Poison = codes "poison"
+keyword_head ZeroInitializer = codes "zeroinitializer"
+keyword_head HeaderLine = []
+keyword_head Align = []
+keyword_head Comdat = []
+keyword_head Group = []
+keyword_head Tail = []
+keyword_head Quiet = []
+keyword_head Outside = []
+keyword_head Other = []
+
+-- the width of an integer type, in digits
+abbrev pub keyword_width : Keyword → List ℕ
+keyword_width (Integer width) = decimal width
+keyword_width _ = []
+
+-- the word that stands for a keyword
 abbrev pub text_of_keyword : Keyword → List ℕ
-text_of_keyword Declare = codes "declare"
-text_of_keyword Call = codes "call"
-text_of_keyword (Integer width) = 105 ∷ decimal width
-text_of_keyword «Type» = codes "type"
-text_of_keyword Global = codes "global"
-text_of_keyword Constant = codes "constant"
-text_of_keyword Define = codes "define"
-text_of_keyword X = codes "x"
-text_of_keyword Void = codes "void"
-text_of_keyword Ptr = codes "ptr"
-text_of_keyword Phi = codes "phi"
-text_of_keyword Add = codes "add"
-text_of_keyword Sub = codes "sub"
-text_of_keyword Mul = codes "mul"
-text_of_keyword Shl = codes "shl"
-text_of_keyword Udiv = codes "udiv"
-text_of_keyword Sdiv = codes "sdiv"
-text_of_keyword Lshr = codes "lshr"
-text_of_keyword Ashr = codes "ashr"
-text_of_keyword Urem = codes "urem"
-text_of_keyword Srem = codes "srem"
-text_of_keyword And = codes "and"
-text_of_keyword Or = codes "or"
-text_of_keyword Xor = codes "xor"
-text_of_keyword Nuw = codes "nuw"
-text_of_keyword Nsw = codes "nsw"
-text_of_keyword Exact = codes "exact"
-text_of_keyword InBounds = codes "inbounds"
-text_of_keyword Icmp = codes "icmp"
-text_of_keyword Select = codes "select"
-text_of_keyword Zext = codes "zext"
-text_of_keyword Sext = codes "sext"
-text_of_keyword Trunc = codes "trunc"
-text_of_keyword To = codes "to"
-text_of_keyword Freeze = codes "freeze"
-text_of_keyword Alloca = codes "alloca"
-text_of_keyword Load = codes "load"
-text_of_keyword Store = codes "store"
-text_of_keyword GetElementPtr = codes "getelementptr"
-text_of_keyword Br = codes "br"
-text_of_keyword Label = codes "label"
-text_of_keyword Switch = codes "switch"
-text_of_keyword Ret = codes "ret"
-text_of_keyword Unreachable = codes "unreachable"
-text_of_keyword Eq = codes "eq"
-text_of_keyword Ne = codes "ne"
-text_of_keyword Ugt = codes "ugt"
-text_of_keyword Uge = codes "uge"
-text_of_keyword Ult = codes "ult"
-text_of_keyword Ule = codes "ule"
-text_of_keyword Sgt = codes "sgt"
-text_of_keyword Sge = codes "sge"
-text_of_keyword Slt = codes "slt"
-text_of_keyword Sle = codes "sle"
-text_of_keyword True = codes "true"
-text_of_keyword False = codes "false"
-text_of_keyword Null = codes "null"
-text_of_keyword Undef = codes "undef"
-text_of_keyword Poison = codes "poison"
-text_of_keyword ZeroInitializer = codes "zeroinitializer"
-text_of_keyword HeaderLine = []
-text_of_keyword Align = []
-text_of_keyword Comdat = []
-text_of_keyword Group = []
-text_of_keyword Tail = []
-text_of_keyword Quiet = []
-text_of_keyword Outside = []
-text_of_keyword Other = []
+text_of_keyword keyword = keyword_head keyword ++ keyword_width keyword
 
 -- a byte that stands for itself in quotes: from 0x20 to 0x7e, but neither `"` nor `\`
 unfoldable pub stands_for_itself : ℕ → Bool

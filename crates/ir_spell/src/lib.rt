@@ -1,4 +1,4 @@
-//! The printed form of symbols, and the law that it is read as the same symbols.
+//! The printed form of symbols, the calls that append it, and the law that it is read as the same symbols.
 #![tactic(auto)]
 
 ghost use Rattle.std.specs.Prelude.{◌≡◌, List, ℕ, ◌++◌};
@@ -8,6 +8,12 @@ ghost use Rattle.ir_lex.specs.Tokens.{AreTokens};
 ghost use Rattle.ir_spell.specs.Printed.{joined, ArePrintable, Spaced, laid_out, symbols_in, AreApart, AreBlanks};
 ghost use Rattle.ir_spell.specs.Spells.{Spells};
 
+mod pieces;
+
+pub use pieces::{
+    push_global, push_keyword, push_label, push_local, push_mark, push_number, push_text,
+};
+
 /// Printed symbols are read as they were, in a row and laid out on lines: whatever the tokens of such a
 /// text are, they mean these symbols.
 pub fn printed_symbols_are_read()
@@ -15,3 +21,6 @@ pub fn printed_symbols_are_read()
     ensures on_lines { (xs : List Spaced) (tail : List ℕ) → ArePrintable (symbols_in xs) → AreApart xs → AreBlanks tail → Spells (laid_out xs ++ tail) (symbols_in xs) }
     ensures no_others { (text : List ℕ) (ss : List Symbol) (toks : List Token) → Spells text ss → AreTokens text toks → symbols_of text toks ≡ ss }
 {}
+
+#[cfg(test)]
+mod tests;
