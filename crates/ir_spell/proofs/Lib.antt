@@ -1,5 +1,6 @@
 pub mod Firsts
 pub mod Joining
+pub mod Lines
 pub mod Names
 pub mod Numbers
 pub mod SymbolTokens

@@ -194,7 +194,7 @@ laid_out_spells xs tail p a t =
     (walk.toks, (walk.left, walk.path), walk.means)
 
 -- symbols in a row, each with what stands before it
-abbrev spaced_behind : Symbol → List Symbol → List Spaced
+abbrev pub spaced_behind : Symbol → List Symbol → List Spaced
 spaced_behind a [] = []
 spaced_behind a (s ∷ ss) = record { gap = between a s; symbol = s } ∷ spaced_behind s ss
 
@@ -202,7 +202,7 @@ abbrev spaced : List Symbol → List Spaced
 spaced [] = []
 spaced (s ∷ ss) = record { gap = []; symbol = s } ∷ spaced_behind s ss
 
-spaced_behind-joined : (a : Symbol) (ss : List Symbol) → laid_out (spaced_behind a ss) ≡ joined_behind a ss
+pub spaced_behind-joined : (a : Symbol) (ss : List Symbol) → laid_out (spaced_behind a ss) ≡ joined_behind a ss
 spaced_behind-joined a [] = refl
 spaced_behind-joined a (s ∷ ss) = ap (λ t. between a s ++ (text_of_symbol s ++ t)) (spaced_behind-joined s ss)
 
@@ -210,7 +210,7 @@ spaced-joined : (ss : List Symbol) → laid_out (spaced ss) ≡ joined ss
 spaced-joined [] = refl
 spaced-joined (s ∷ ss) = ap (λ t. text_of_symbol s ++ t) (spaced_behind-joined s ss)
 
-spaced_behind-symbols : (a : Symbol) (ss : List Symbol) → symbols_in (spaced_behind a ss) ≡ ss
+pub spaced_behind-symbols : (a : Symbol) (ss : List Symbol) → symbols_in (spaced_behind a ss) ≡ ss
 spaced_behind-symbols a [] = refl
 spaced_behind-symbols a (s ∷ ss) = ap (λ t. s ∷ t) (spaced_behind-symbols s ss)
 
@@ -227,7 +227,7 @@ gap_none : (t : Bool) → ◌≡◌ {A = List ℕ} (cond t [] (32 ∷ [])) [] �
 gap_none true e = refl
 gap_none false e = absurd (cc)
 
-spaced_behind-apart : (a : Symbol) (ss : List Symbol) → AreApartBehind a (spaced_behind a ss)
+pub spaced_behind-apart : (a : Symbol) (ss : List Symbol) → AreApartBehind a (spaced_behind a ss)
 spaced_behind-apart a [] = tt
 spaced_behind-apart a (s ∷ ss) = (gap_blanks (touches a s), gap_none (touches a s), spaced_behind-apart s ss)
 

@@ -227,3 +227,23 @@ AreApartBehind a (x ∷ xs) = AreBlanks x.gap × (x.gap ≡ [] → touches a x.s
 abbrev pub AreApart : List Spaced → Type 0
 AreApart [] = Unit {0}
 AreApart (x ∷ xs) = AreBlanks x.gap × AreApartBehind x.symbol xs
+
+-- a line: its indent, and a row of symbols
+pub record Line : Type 0 where
+  pub indent : List ℕ
+  pub row : List Symbol
+
+-- the text of lines, each with a line feed at its end
+abbrev pub text_of_lines : List Line → List ℕ
+text_of_lines [] = []
+text_of_lines (l ∷ ls) = l.indent ++ (joined l.row ++ 10 ∷ text_of_lines ls)
+
+-- the symbols of lines
+abbrev pub rows_of : List Line → List Symbol
+rows_of [] = []
+rows_of (l ∷ ls) = l.row ++ rows_of ls
+
+-- each indent is blanks
+abbrev pub AreIndented : List Line → Type 0
+AreIndented [] = Unit {0}
+AreIndented (l ∷ ls) = AreBlanks l.indent × AreIndented ls
