@@ -1,4 +1,3 @@
-pub mod Digits
 pub mod Dropped
 pub mod Escapes
 pub mod Floats
@@ -10,4 +9,5 @@ pub mod Paths
 pub mod Pieces
 pub mod Rules
 pub mod Strings
+pub mod SymbolParts
 pub mod Unique

@@ -10,16 +10,18 @@ mod numbers;
 mod phrases;
 mod quieting;
 mod scan;
+mod symbols;
 mod token;
-mod words;
 
+pub use bytes::is_name_byte;
 pub use error::LexError;
+pub use ir_words::{Keyword, keyword_of};
 pub use laws::{at_most_one_token_list, tokens_lie_in_order};
 pub use meaning::{name_of, word_of};
 pub use quieting::quiet;
 pub use scan::tokens;
+pub use symbols::{mark_of, number_of, text_of};
 pub use token::{Kind, Token};
-pub use words::{Keyword, keyword_of};
 
 #[cfg(test)]
 mod tests;
