@@ -29,7 +29,7 @@ regular_ty : Regular ty_rule
 regular_ty = regular_pick ty_head regular_rest
 
 -- a closed part up to a closing mark
-good_closed_by : {V : Type 0} {n : ℕ} {a : Lang Symbol V} {r : Reader Symbol V} (b : ℕ) → punct b (MarkSymbol b) ≡ Some mark → Good n a r never
+pub good_closed_by : {V : Type 0} {n : ℕ} {a : Lang Symbol V} {r : Reader Symbol V} (b : ℕ) → punct b (MarkSymbol b) ≡ Some mark → Good n a r never
     → Good n (up_to (punct b) a) (run_up_to (punct b) r) never
 good_closed_by {n = n} b e g = good_map _ (good_seq (joins_never _ never) g (good_one n (punct b) (MarkSymbol b) mark never e))
 
