@@ -41,7 +41,7 @@ regular_rest ValuesOpen = regular_map _ (regular_list 125)
 regular_rest PackedValuesOpen = regular_skip (punct 123) (regular_map _ (regular_up_to (punct 62) (regular_list 125)))
 regular_rest AddressOpen = regular_map _ (regular_seq (regular_fixed (many (one address_flag))) (regular_skip (punct 40) regular_operands))
 
-regular_const : Regular const_rule
+pub regular_const : Regular const_rule
 regular_const = regular_pick const_head regular_rest
 
 pub good_typed : (n : ℕ) (r : Reader Symbol ConstShape) → Good n const r never → Good n (typed_const const) (run_typed_const n r) never

@@ -25,7 +25,7 @@ regular_rest ArrayOpen = regular_map _ (regular_up_to (punct 93) (regular_seq (r
 regular_rest FieldsOpen = regular_map _ (regular_listed (punct 44) (punct 125) regular_self)
 regular_rest PackedOpen = regular_skip (punct 123) (regular_map _ (regular_up_to (punct 62) (regular_listed (punct 44) (punct 125) regular_self)))
 
-regular_ty : Regular ty_rule
+pub regular_ty : Regular ty_rule
 regular_ty = regular_pick ty_head regular_rest
 
 -- a closed part up to a closing mark

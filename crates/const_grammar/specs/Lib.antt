@@ -1,3 +1,4 @@
 pub mod Symbols
 pub mod Types
 pub mod Constants
+pub mod Spelling
