@@ -1,7 +1,7 @@
 -- The grammar of types, and its reader:
 --     ty = ID | "ptr" | "void" | Local | "[" Int "x" ty "]"
 --        | "{" [ ty { "," ty } ] "}" | "<" "{" [ ty { "," ty } ] "}" ">"
-use Rattle.std.specs.Prelude.{ℕ, ◌^◌, ◌==◌, nat_lt, true, false, List, Option, None, Some, pos, negsuc, if◌then◌else◌}
+use Rattle.std.specs.Prelude.{ℕ, ◌^◌, ◌==◌, Bool, nat_lt, ◌&&◌, true, false, List, Option, None, Some, pos, negsuc, if◌then◌else◌}
 use Rattle.ir_grammar.specs.Language.{Lang, Mark, mark, empty, pick, one, skip, seq, map_to, up_to, listed, recursive}
 use Rattle.ir_grammar.specs.Reader.{Reader, run_empty, run_pick, run_one, run_skip, run_seq, run_map, run_up_to, run_listed, run_recursive}
 use Rattle.ir_tree.specs.Shape.{TyShape, integer, pointer, void, array, structure, named, ty_row}
@@ -34,8 +34,12 @@ pub data TyHead : Type 0 where
 abbrev pub ty_bracket : ℕ → Option TyHead
 ty_bracket b = if b == 91 then Some ArrayOpen else (if b == 123 then Some FieldsOpen else (if b == 60 then Some PackedOpen else None))
 
+-- the widths of integer types
+abbrev pub is_width : ℕ → Bool
+is_width bits = nat_lt 0 bits && nat_lt bits 65
+
 abbrev pub ty_head : Symbol → Option TyHead
-ty_head (WidthSymbol bits) = Some (WholeType (integer bits))
+ty_head (WidthSymbol bits) = if is_width bits then Some (WholeType (integer bits)) else None
 ty_head (KeywordSymbol Ptr) = Some (WholeType pointer)
 ty_head (KeywordSymbol Void) = Some (WholeType void)
 ty_head (LocalSymbol name) = Some (WholeType (named name))
