@@ -1,4 +1,3 @@
-pub mod Digits
 pub mod Dropped
 pub mod Escapes
 pub mod Floats

@@ -5,6 +5,7 @@ use Rattle.std.specs.List.{prefix_len}
 use Rattle.std.proofs.lemmas.Bool.{eqb-true, eq-eqb}
 use Rattle.std.proofs.lemmas.Bool.Decides.{nat_tests}
 use Rattle.ir_lex.specs.Spelling.{Passes, IsRun, Stops, Follows, IsSigned}
+pub use Rattle.ir_words.proofs.Runs.{CutsRun, run_of}
 use Rattle.ir_lex.specs.Bytes.{is_sign}
 use Rattle.ir_lex.specs.Lengths.{one_more, after_byte, after_sign, longer, positive, run_len}
 
@@ -54,23 +55,6 @@ prefix_len-Stops p (b ∷ r) h = rw h refl
 
 pub prefix_len-stopped : (p : ℕ → Bool) (v r : List ℕ) → Passes p v → Stops p r → prefix_len p (v ++ r) ≡ length v
 prefix_len-stopped p v r h s = omega (arith, prefix_len-Passes p v r h, prefix_len-Stops p r s)
-
-pub record CutsRun (p : ℕ → Bool) (text : List ℕ) : Type 0 where
-  pub front : List ℕ
-  pub rest : List ℕ
-  pub cut : text ≡ front ++ rest
-  pub long : length front ≡ prefix_len p text
-  pub passes : Passes p front
-  pub stops : Stops p rest
-
-run_of-step : (p : ℕ → Bool) (b : ℕ) (text : List ℕ) (t : Bool) → p b ≡ t → CutsRun p text → CutsRun p (b ∷ text)
-run_of-step p b text true e more =
-    record { front = b ∷ more.front; rest = more.rest; cut = ap (λ t. b ∷ t) more.cut; long = rw e (omega (arith, more.long)); passes = (e, more.passes); stops = more.stops }
-run_of-step p b text false e more = record { front = []; rest = b ∷ text; cut = refl; long = rw e refl; passes = tt; stops = e }
-
-pub run_of : (p : ℕ → Bool) (text : List ℕ) → CutsRun p text
-run_of p [] = record { front = []; rest = []; cut = refl; long = refl; passes = tt; stops = tt }
-run_of p (b ∷ text) = run_of-step p b text (p b) refl (run_of p text)
 
 pub IsRun-Passes : (p : ℕ → Bool) (v : List ℕ) → IsRun p v → Passes p v
 IsRun-Passes p [] h = absurd h

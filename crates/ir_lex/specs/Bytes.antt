@@ -1,9 +1,6 @@
+unfoldable pub use Rattle.ir_words.specs.Digits.{is_digit}
 use Rattle.std.specs.Prelude.{ℕ, Bool, ◌==◌, ◌||◌, not}
 use Rattle.std.specs.Char.{is_ascii_alphabetic, is_ascii_digit}
-
--- a decimal digit
-unfoldable pub is_digit : ℕ → Bool
-is_digit b = is_ascii_digit b
 
 -- a byte of a name without quotes: a letter, a digit, `$`, `.`, `_` or `-`
 unfoldable pub is_name_byte : ℕ → Bool

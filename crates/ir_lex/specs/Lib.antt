@@ -4,5 +4,5 @@ pub mod Meaning
 pub mod Names
 pub mod Quiet
 pub mod Spelling
+pub mod Symbols
 pub mod Tokens
-pub mod Words

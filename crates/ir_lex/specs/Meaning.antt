@@ -1,12 +1,12 @@
 -- What a token means: the bytes of its name, and what its word stands for.
 use Rattle.std.specs.Prelude.{ℕ, Bool, ◌+◌, ◌-◌, ◌*◌, ◌==◌, ◌||◌, ◌&&◌, if◌then◌else◌, nat_lt, zero, suc, List, [], ◌∷◌, length, take, drop}
 use Rattle.ir_lex.specs.Lengths.{begins_by}
-use Rattle.ir_lex.specs.Words.{keyword_of}
+use Rattle.ir_words.specs.Words.{keyword_of}
 use Rattle.ir_lex.specs.declared.token.Token.{Token}
 use Rattle.ir_lex.specs.declared.token.Kind.{Kind}
 use Rattle.ir_lex.specs.declared.token.Kind.TheVariants.{Local, Global, Label, Word}
-use Rattle.ir_lex.specs.declared.words.Keyword.{Keyword}
-use Rattle.ir_lex.specs.declared.words.Keyword.TheVariants.{Other}
+use Rattle.ir_words.specs.declared.words.Keyword.{Keyword}
+use Rattle.ir_words.specs.declared.words.Keyword.TheVariants.{Other}
 
 -- the bytes of a token, as they stand in the text
 unfoldable pub spelling : List ℕ → Token → List ℕ

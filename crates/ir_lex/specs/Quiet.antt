@@ -3,7 +3,7 @@ use Rattle.std.specs.Prelude.{◌≡◌, ℕ, Bool, true, false, ◌+◌, ◌-�
 use Rattle.std.specs.List.{prefix_len}
 use Rattle.std.specs.Str.{bytes_eq}
 use Rattle.ir_lex.specs.Lengths.{begins_by, one_more}
-use Rattle.ir_lex.specs.Words.{keyword_of, is_header, is_caller, is_align, is_comdat, is_group_word, is_quiet_word, is_outside_word}
+use Rattle.ir_words.specs.Words.{keyword_of, is_header, is_caller, is_align, is_comdat, is_group_word, is_quiet_word, is_outside_word}
 use Rattle.ir_lex.specs.Meaning.{spelling, word_of, name_of}
 use Rattle.ir_lex.specs.Names.{is_note_name}
 use Rattle.ir_lex.specs.declared.error.LexError.{LexError}

@@ -1,23 +1,14 @@
-use Rattle.std.specs.Prelude.{◌≡◌, ◌⊎◌, ℕ, Bool, true, false, ◌+◌, ◌^◌, ◌<◌, List, [], ◌∷◌, ◌++◌}
+use Rattle.std.specs.Prelude.{◌≡◌, ◌⊎◌, ℕ, Bool, true, ◌+◌, ◌^◌, ◌<◌, List, [], ◌∷◌, ◌++◌}
 use Rattle.std.specs.Str.Parse.{digits_value}
+pub use Rattle.ir_words.specs.Digits.{Passes, Stops}
 use Rattle.ir_lex.specs.Bytes.{is_digit, is_name_byte, is_word_start, is_meta_byte, is_punct, is_sign, is_exponent_mark, is_not_quote}
 use Rattle.ir_lex.specs.declared.token.Kind.{Kind}
 use Rattle.ir_lex.specs.declared.token.Kind.TheVariants.{Local, Global, CStr, Label, Str, Float, Int, Word, Meta, Hash, Punct}
-
--- each byte passes the test
-abbrev pub Passes : (ℕ → Bool) → List ℕ → Type 0
-Passes p [] = Unit {0}
-Passes p (b ∷ bs) = (p b ≡ true) × Passes p bs
 
 -- one or more bytes, each of which passes the test
 abbrev pub IsRun : (ℕ → Bool) → List ℕ → Type 0
 IsRun p [] = ⊥
 IsRun p (b ∷ bs) = (p b ≡ true) × Passes p bs
-
--- the end, or a first byte that doesn't pass the test
-abbrev pub Stops : (ℕ → Bool) → List ℕ → Type 0
-Stops p [] = Unit {0}
-Stops p (b ∷ bs) = p b ≡ false
 
 -- this byte, and then such a list
 abbrev pub Follows : ℕ → (List ℕ → Type 0) → List ℕ → Type 0

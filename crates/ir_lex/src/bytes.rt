@@ -1,15 +1,7 @@
 //! Classes of bytes.
 
 ghost use Rattle.std.specs.Prelude.{◌≡◌};
-ghost use Rattle.ir_lex.specs.Bytes.{is_digit, is_name_byte, is_word_start, is_meta_byte, is_punct, is_sign, is_exponent_mark, is_blank};
-
-/// A decimal digit.
-#[tactic(auto, unfolding(crate::specs::Bytes::is_digit))]
-pub fn is_digit(b: u8) -> bool
-    ensures { result ≡ is_digit b }
-{
-    b.is_ascii_digit()
-}
+ghost use Rattle.ir_lex.specs.Bytes.{is_name_byte, is_word_start, is_meta_byte, is_punct, is_sign, is_exponent_mark, is_blank};
 
 /// A byte of a name without quotes: a letter, a digit, `$`, `.`, `_` or `-`.
 #[tactic(auto, unfolding(crate::specs::Bytes::is_name_byte))]

@@ -6,17 +6,9 @@ ghost use Rattle.ir_lex.specs.Bytes.{is_digit, is_name_byte, is_meta_byte, is_no
 ghost use Rattle.ir_lex.specs.Lengths.{begins_by, after_byte, after_sign, run_len, string_len, name_len, label_len, word_len, punct_len, float_len, integer_len, exponent_len, decimals_len, fraction_len, hexadecimal_len, signed_digits_len, longer, number_len, gap_len, NoLabels};
 
 use crate::bytes::{
-    is_blank, is_digit, is_exponent_mark, is_meta_byte, is_name_byte, is_punct, is_sign,
-    is_word_start,
+    is_blank, is_exponent_mark, is_meta_byte, is_name_byte, is_punct, is_sign, is_word_start,
 };
-
-/// How many digits the text begins with.
-pub fn digit_count(text: &[u8]) -> usize
-    ensures count { result ≡ prefix_len is_digit text.now }
-    ensures within { result ≤ length text.now }
-{
-    text.iter().take_while(|b| is_digit(**b)).count()
-}
+use ir_words::digits::{digit_count, is_digit};
 
 /// How many bytes of a name the text begins with.
 fn name_byte_count(text: &[u8]) -> usize

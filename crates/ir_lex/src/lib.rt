@@ -11,15 +11,14 @@ mod phrases;
 mod quieting;
 mod scan;
 mod token;
-mod words;
 
 pub use error::LexError;
+pub use ir_words::{Keyword, keyword_of};
 pub use laws::{at_most_one_token_list, tokens_lie_in_order};
 pub use meaning::{name_of, word_of};
 pub use quieting::quiet;
 pub use scan::tokens;
 pub use token::{Kind, Token};
-pub use words::{Keyword, keyword_of};
 
 #[cfg(test)]
 mod tests;

@@ -6,7 +6,7 @@ ghost use Rattle.ir_lex.specs.Names.{begins_as};
 
 use crate::lengths::begins_with;
 use crate::token::{Kind, Token};
-use crate::words::{Keyword, keyword_of};
+use ir_words::{Keyword, keyword_of};
 use std::alloc::{AllocError, Global};
 
 /// The bytes of a token, as they stand in the text.

@@ -7,7 +7,7 @@ ghost use Rattle.ir_lex.specs.Spelling.{Passes};
 ghost use Rattle.ir_lex.specs.Lengths.{begins_by, number_len, integer_len};
 
 use crate::bytes::is_name_byte;
-use crate::lengths::digit_count;
+use ir_words::digits::{digit_count, value};
 
 /// The number from which on an integer without a sign doesn't fit 128 bits with a sign.
 const PAST_MOST: u128 = 1 << 127;
@@ -18,13 +18,7 @@ pub fn is_below(digits: &[u8], limit: u128) -> bool
     requires small { limit < 2 ^ 128 - 1 }
     ensures { result ≡ nat_lt (digits_value 10 digits.now) limit }
 {
-    let mut value = 0u128;
-    for digit in digits {
-        value = value
-            .saturating_mul(10)
-            .saturating_add(u128::from(*digit - b'0'));
-    }
-    value < limit
+    value(digits) < limit
 }
 
 /// Whether the text begins with a byte of a name.

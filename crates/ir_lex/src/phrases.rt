@@ -9,7 +9,7 @@ ghost use Rattle.ir_lex.specs.Quiet.{is_meta, is_hash, is_int, is_global, is_pun
 use crate::lengths::begins_with;
 use crate::meaning::{begins_as, name_spelling, spelling, word_of};
 use crate::token::{Kind, Token};
-use crate::words::{
+use ir_words::{
     is_align, is_caller, is_comdat, is_group_word, is_header, is_quiet_word, keyword_of,
 };
 

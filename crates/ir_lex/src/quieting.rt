@@ -7,7 +7,7 @@ use crate::error::LexError;
 use crate::meaning::{spelling, word_of};
 use crate::phrases::{Rule, phrase};
 use crate::token::Token;
-use crate::words::is_outside_word;
+use ir_words::is_outside_word;
 use std::alloc::{AllocError, Global};
 
 /// What a rule leaves of a token list.

@@ -3,11 +3,10 @@ use Rattle.std.specs.Prelude.{ℕ, Bool, true, false, not, ◌==◌, ◌&&◌, i
 use Rattle.std.specs.Str.{bytes_eq}
 use Rattle.std.specs.Str.Parse.{digits_value}
 use Rattle.std.specs.List.{prefix_len}
-use Rattle.ir_lex.specs.Bytes.{is_digit}
-use Rattle.ir_lex.specs.Lengths.{begins_by}
-use Rattle.ir_lex.specs.declared.words.Keyword.{Keyword}
-use Rattle.ir_lex.specs.declared.words.Keyword.TheVariants.{HeaderLine, Declare, Call, Align, Comdat, Group, Tail, Quiet, Integer, Outside, Other}
-use Rattle.ir_lex.specs.declared.words.TheConstants.{LANGUAGE_WORDS, DROPPED_WORDS, OUTSIDE_WORDS}
+use Rattle.ir_words.specs.Digits.{is_digit}
+use Rattle.ir_words.specs.declared.words.Keyword.{Keyword}
+use Rattle.ir_words.specs.declared.words.Keyword.TheVariants.{HeaderLine, Declare, Call, Align, Comdat, Group, Tail, Quiet, Integer, Outside, Other}
+use Rattle.ir_words.specs.declared.words.TheConstants.{LANGUAGE_WORDS, DROPPED_WORDS, OUTSIDE_WORDS}
 
 -- what a word stands for by a table: what the first row of this word says
 unfoldable pub listed : List (List ℕ × Keyword) → List ℕ → Keyword
@@ -18,9 +17,18 @@ listed (row ∷ rows) w = if bytes_eq row.0 w then row.1 else listed rows w
 abbrev pub is_number : List ℕ → Bool
 is_number w = not (prefix_len is_digit w == 0) && (prefix_len is_digit w == length w)
 
+-- whether digits begin with a zero
+abbrev pub has_leading_zero : List ℕ → Bool
+has_leading_zero [] = false
+has_leading_zero (b ∷ bs) = b == 48
+
 -- a width of an integer type, in digits: a number of 1 to 64 without a leading zero
 abbrev pub is_width : List ℕ → Bool
-is_width digits = not (begins_by (λ b. b == 48) digits) && nat_lt (digits_value 10 digits) 65
+is_width digits = not (has_leading_zero digits) && nat_lt (digits_value 10 digits) 65
+
+-- what `i` and these digits stand for: an integer type of that width, or nothing in the language
+abbrev pub width_keyword : List ℕ → Keyword
+width_keyword digits = if is_width digits then Integer (digits_value 10 digits) else Outside
 
 -- `i` and digits
 abbrev pub is_integer_word : List ℕ → Bool
@@ -30,7 +38,7 @@ is_integer_word (b ∷ bs) = (b == 105) && is_number bs
 -- what `i` and digits stand for
 abbrev pub integer_keyword : List ℕ → Keyword
 integer_keyword [] = Other
-integer_keyword (b ∷ bs) = if is_width bs then Integer else Outside
+integer_keyword (b ∷ bs) = width_keyword bs
 
 -- what a word of a module stands for
 unfoldable pub language_word : List ℕ → Keyword

@@ -7,9 +7,9 @@ use Rattle.std.proofs.Math.Seq.{take-suc}
 use Rattle.std.proofs.lemmas.Bool.Decides.{nat_tests}
 use Rattle.std.proofs.lemmas.Int.Digits.{digits_value_push}
 use Rattle.std.proofs.lemmas.List.{take_at}
-use Rattle.ir_lex.specs.Bytes.{is_digit}
-use Rattle.ir_lex.specs.Spelling.{Passes}
-use Rattle.ir_lex.proofs.Pieces.{run_of}
+use Rattle.ir_words.specs.Digits.{is_digit}
+use Rattle.ir_words.specs.Digits.{Passes}
+use Rattle.ir_words.proofs.Runs.{run_of}
 
 pub digit_low : (b : ℕ) → is_digit b ≡ true → 48 ≤ b
 unfolding is_digit

@@ -1,10 +1,9 @@
 //! The words of the language, each with what it stands for.
 
 ghost use Rattle.std.specs.Prelude.{◌≡◌, true, map};
-ghost use Rattle.ir_lex.specs.Words.{listed, is_number, is_width, is_integer_word, integer_keyword, language_word, dropped_word, outside_word, is_other, keyword_of, is_header, is_caller, is_align, is_comdat, is_group_word, is_quiet_word, is_outside_word};
+ghost use Rattle.ir_words.specs.Words.{listed, is_number, has_leading_zero, width_keyword, is_integer_word, integer_keyword, language_word, dropped_word, outside_word, is_other, keyword_of, is_header, is_caller, is_align, is_comdat, is_group_word, is_quiet_word, is_outside_word};
 
-use crate::lengths::{begins_with, digit_count};
-use crate::numbers::is_below;
+use crate::digits::{digit_count, value};
 
 /// What a word stands for.
 #[derive(Clone, Copy, Debug, PartialEq, Eq)]
@@ -25,8 +24,8 @@ pub enum Keyword {
     Tail,
     /// An attribute or a flag that stands alone.
     Quiet,
-    /// An integer type of 1 to 64 bits.
-    Integer,
+    /// An integer type of this width, 1 to 64 bits.
+    Integer(u8),
     /// `type`.
     Type,
     /// `global`.
@@ -384,12 +383,27 @@ fn is_number(text: &[u8]) -> bool
     count > 0 && count == text.len()
 }
 
-/// The width of an integer type, in digits: whether it is a number of 1 to 64 without a leading zero.
-fn is_width(digits: &[u8]) -> bool
-    requires { is_number digits.now ≡ true }
-    ensures { result ≡ is_width digits.now }
+/// Whether the digits begin with a zero.
+fn has_leading_zero(digits: &[u8]) -> bool
+    ensures { result ≡ has_leading_zero digits.now }
 {
-    !begins_with(digits, b'0') && is_below(digits, 65)
+    match digits {
+        [first, ..] => *first == b'0',
+        [] => false,
+    }
+}
+
+/// What `i` and these digits stand for.
+fn width_keyword(digits: &[u8]) -> Keyword
+    requires { is_number digits.now ≡ true }
+    ensures { result ≡ width_keyword digits.now }
+{
+    let width = value(digits);
+    if !has_leading_zero(digits) && width < 65 {
+        Keyword::Integer(width as u8)
+    } else {
+        Keyword::Outside
+    }
 }
 
 /// Whether the word is `i` and digits.
@@ -408,13 +422,7 @@ fn integer_keyword(word: &[u8]) -> Keyword
     ensures { result ≡ integer_keyword word.now }
 {
     match word {
-        [_, digits @ ..] => {
-            if is_width(digits) {
-                Keyword::Integer
-            } else {
-                Keyword::Outside
-            }
-        }
+        [_, digits @ ..] => width_keyword(digits),
         [] => Keyword::Other,
     }
 }

@@ -1,0 +1,13 @@
+//! The words of the language, each with what it stands for, and the numbers that digits spell.
+#![tactic(auto)]
+
+pub mod digits;
+mod words;
+
+pub use words::{
+    Keyword, is_align, is_caller, is_comdat, is_group_word, is_header, is_outside_word,
+    is_quiet_word, keyword_of,
+};
+
+#[cfg(test)]
+mod tests;
