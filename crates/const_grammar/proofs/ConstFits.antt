@@ -2,8 +2,8 @@
 use Rattle.std.proofs.Common.{◌≡◌, ℕ, zero, suc, Bool, true, false, List, [], ◌∷◌, Option, Some, None, refl, sym, subst, if◌then◌else◌}
 use Rattle.ir_grammar.specs.Language.{Lang, nothing, nested, recursive, skip}
 use Rattle.ir_tree.specs.Shape.{ConstShape, number, boolean, null, undef, poison, zero_value, text, elements, fields, global, address, TypedShape, typed, TypedShapes, no_values, values, typed_row}
-use Rattle.ir_lex.specs.declared.words.Keyword.TheVariants.{True, False, Null, Undef, Poison, ZeroInitializer, GetElementPtr}
-use Rattle.const_grammar.specs.Symbols.{Symbol, KeywordSymbol, GlobalSymbol, NumberSymbol, TextSymbol, MarkSymbol}
+use Rattle.ir_words.specs.declared.words.Keyword.TheVariants.{True, False, Null, Undef, Poison, ZeroInitializer, GetElementPtr}
+use Rattle.ir_lex.specs.Symbols.{Symbol, KeywordSymbol, GlobalSymbol, NumberSymbol, TextSymbol, MarkSymbol}
 use Rattle.const_grammar.specs.Types.{punct, ty}
 use Rattle.const_grammar.specs.Constants.{ConstHead, WholeConst, ElementsOpen, ValuesOpen, PackedValuesOpen, AddressOpen, const_head, typed_const, typed_list, operands, const_rest, const_rule, const, address_of}
 use Rattle.const_grammar.specs.Spelling.{FitsTy, FitsConst, FitsTyped, FitTyped}

@@ -2,7 +2,7 @@
 use Rattle.std.proofs.Common.{◌≡◌, ℕ, ◌==◌, Bool, true, false, Option, None, Some, refl, sym, ◌∙◌, ap, subst, eqb-true, is_some, if◌then◌else◌}
 use Rattle.ir_grammar.specs.Language.{Mark, mark}
 use Rattle.ir_grammar.specs.Reader.{heads}
-use Rattle.const_grammar.specs.Symbols.{Symbol, KeywordSymbol, WidthSymbol, LocalSymbol, GlobalSymbol, LabelSymbol, NumberSymbol, TextSymbol, MarkSymbol, OtherSymbol}
+use Rattle.ir_lex.specs.Symbols.{Symbol, KeywordSymbol, LocalSymbol, GlobalSymbol, LabelSymbol, NumberSymbol, TextSymbol, MarkSymbol, OtherSymbol}
 use Rattle.const_grammar.specs.Types.{punct}
 
 mark_byte : (b c : ℕ) (same : Bool) → b == c ≡ same → is_some (if same then Some mark else None) ≡ true → MarkSymbol c ≡ MarkSymbol b
@@ -12,7 +12,6 @@ mark_byte b c false e h = cc
 -- the mark that punct b knows
 pub punct_is : (b : ℕ) (t : Symbol) → heads (punct b) t ≡ true → t ≡ MarkSymbol b
 punct_is b (KeywordSymbol k) h = cc
-punct_is b (WidthSymbol n) h = cc
 punct_is b (LocalSymbol n) h = cc
 punct_is b (GlobalSymbol n) h = cc
 punct_is b (LabelSymbol n) h = cc

@@ -2,8 +2,8 @@
 use Rattle.std.proofs.Common.{◌≡◌, ℕ, zero, suc, ◌<◌, ◌^◌, Bool, true, false, List, [], ◌∷◌, Option, Some, None, pos, negsuc, refl, sym, subst, ap, nat_lt, ltb-true, ◌&&◌, if◌then◌else◌}
 use Rattle.ir_grammar.specs.Language.{Lang, nothing, nested, recursive}
 use Rattle.ir_tree.specs.Shape.{TyShape, integer, pointer, void, array, structure, named, TyShapes, no_types, types, ty_row}
-use Rattle.ir_lex.specs.declared.words.Keyword.TheVariants.{Ptr, Void}
-use Rattle.const_grammar.specs.Symbols.{Symbol, KeywordSymbol, WidthSymbol, LocalSymbol, GlobalSymbol, LabelSymbol, NumberSymbol, TextSymbol, MarkSymbol, OtherSymbol}
+use Rattle.ir_words.specs.declared.words.Keyword.TheVariants.{Integer, Ptr, Void}
+use Rattle.ir_lex.specs.Symbols.{Symbol, KeywordSymbol, LocalSymbol, GlobalSymbol, LabelSymbol, NumberSymbol, TextSymbol, MarkSymbol, OtherSymbol}
 use Rattle.const_grammar.specs.Types.{punct, count, is_width, TyHead, WholeType, ArrayOpen, FieldsOpen, PackedOpen, ty_bracket, ty_head, ty_rest, ty_rule, ty}
 use Rattle.const_grammar.specs.Spelling.{FitsTy, FitTys}
 use Rattle.ir_tree.proofs.Grows.{and_left, and_right}
@@ -17,7 +17,6 @@ pub count_fits : (s : Symbol) (n : ℕ) → count s ≡ Some n → n < 2 ^ 64
 count_fits (NumberSymbol (pos n)) m h = count_fits_at n m (nat_lt n (2 ^ 64)) refl h
 count_fits (NumberSymbol (negsuc n)) m h = cc
 count_fits (KeywordSymbol k) m h = cc
-count_fits (WidthSymbol k) m h = cc
 count_fits (LocalSymbol k) m h = cc
 count_fits (GlobalSymbol k) m h = cc
 count_fits (LabelSymbol k) m h = cc
@@ -40,7 +39,7 @@ bracket_whole false false false t h = cc
 
 head_fits : (s : Symbol) (t : TyShape) → ty_head s ≡ Some (WholeType t) → FitsTy t
 unfolding FitsTy FitTys
-head_fits (WidthSymbol bits) t h = width_fits bits t (is_width bits) refl h
+head_fits (KeywordSymbol (Integer bits)) t h = width_fits bits t (is_width bits) refl h
 head_fits (KeywordSymbol Ptr) t h = let same : pointer ≡ t = cc in subst FitsTy same tt
 head_fits (KeywordSymbol Void) t h = let same : void ≡ t = cc in subst FitsTy same tt
 head_fits (LocalSymbol name) t h = let same : named name ≡ t = cc in subst FitsTy same tt

@@ -8,8 +8,8 @@ use Rattle.ir_grammar.proofs.Laws.{good_one, good_pick, good_skip, good_map, goo
 use Rattle.ir_grammar.proofs.Lists.{good_listed}
 use Rattle.ir_grammar.proofs.Recursion.{Regular, regular_self, regular_fixed, regular_pick, regular_map, regular_seq, regular_skip, regular_up_to, regular_listed, good_recursive}
 use Rattle.ir_tree.specs.Shape.{TyShape, pointer}
-use Rattle.ir_lex.specs.declared.words.Keyword.TheVariants.{Ptr, X}
-use Rattle.const_grammar.specs.Symbols.{Symbol, KeywordSymbol, NumberSymbol, MarkSymbol}
+use Rattle.ir_words.specs.declared.words.Keyword.TheVariants.{Ptr, X}
+use Rattle.ir_lex.specs.Symbols.{Symbol, KeywordSymbol, NumberSymbol, MarkSymbol}
 use Rattle.const_grammar.specs.Types.{punct, times, count, TyHead, WholeType, ArrayOpen, FieldsOpen, PackedOpen, ty_head, ty_rest, ty_rule, ty, run_ty_rest, run_ty_rule, run_ty}
 use Rattle.const_grammar.proofs.Sides.{punct_apart}
 

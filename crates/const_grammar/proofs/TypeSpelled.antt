@@ -4,8 +4,8 @@ use Rattle.std.proofs.lemmas.Bool.{lt-ltb}
 use Rattle.ir_grammar.specs.Language.{Lang, mark, one, many, skip, listed}
 use Rattle.ir_grammar.proofs.Recursion.{recursive_in}
 use Rattle.ir_tree.specs.Shape.{TyShape, integer, pointer, void, array, structure, named, TyShapes, no_types, types, ty_row}
-use Rattle.ir_lex.specs.declared.words.Keyword.TheVariants.{Ptr, Void, X}
-use Rattle.const_grammar.specs.Symbols.{Symbol, KeywordSymbol, WidthSymbol, LocalSymbol, NumberSymbol, MarkSymbol}
+use Rattle.ir_words.specs.declared.words.Keyword.TheVariants.{Integer, Ptr, Void, X}
+use Rattle.ir_lex.specs.Symbols.{Symbol, KeywordSymbol, LocalSymbol, NumberSymbol, MarkSymbol}
 use Rattle.const_grammar.specs.Types.{punct, times, count, WholeType, ArrayOpen, FieldsOpen, PackedOpen, ty_head, ty_rule, ty}
 use Rattle.const_grammar.specs.Spelling.{in_braces, ty_spelling, ty_list_spelling, ty_more_spelling, FitsTy, FitTys}
 use Rattle.ir_tree.proofs.Grows.{and_both}
@@ -27,7 +27,7 @@ closed b e = (MarkSymbol b, [], mark, refl, e, (refl, refl))
 count_known : (n : ℕ) → n < 2 ^ 64 → count (NumberSymbol (pos n)) ≡ Some n
 count_known n h = ap (λ b. if b then Some n else None) (lt-ltb n (2 ^ 64) h)
 
-width_known : (bits : ℕ) → 0 < bits → bits < 65 → ty_head (WidthSymbol bits) ≡ Some (WholeType (integer bits))
+width_known : (bits : ℕ) → 0 < bits → bits < 65 → ty_head (KeywordSymbol (Integer bits)) ≡ Some (WholeType (integer bits))
 width_known bits h k = ap (λ b. if b then Some (WholeType (integer bits)) else None) (and_both (lt-ltb 0 bits h) (lt-ltb bits 65 k))
 
 word_of_rule : (ts : List Symbol) (t : TyShape) → ty_rule ty ts t → ty ts t
@@ -53,7 +53,7 @@ mutual
   unfolding ty_spelling ty_list_spelling ty_more_spelling FitsTy FitTys
   -- the spelling of a type spells the type
   pub spelled_ty : (t : TyShape) → FitsTy t → ty (ty_spelling t) t
-  spelled_ty (integer bits) h = word_of_rule _ _ (WidthSymbol bits, [], WholeType (integer bits), refl, width_known bits h.0 h.1, (refl, refl))
+  spelled_ty (integer bits) h = word_of_rule _ _ (KeywordSymbol (Integer bits), [], WholeType (integer bits), refl, width_known bits h.0 h.1, (refl, refl))
   spelled_ty pointer h = word_of_rule _ _ (KeywordSymbol Ptr, [], WholeType pointer, refl, refl, (refl, refl))
   spelled_ty void h = word_of_rule _ _ (KeywordSymbol Void, [], WholeType void, refl, refl, (refl, refl))
   spelled_ty (array n t) h =

@@ -9,8 +9,8 @@ use Rattle.std.specs.List.{list_any}
 use Rattle.ir_grammar.specs.Language.{Lang, Mark, mark, empty, pick, one, skip, seq, map_to, many, up_to, until, listed, recursive}
 use Rattle.ir_grammar.specs.Reader.{Reader, heads, run_empty, run_pick, run_one, run_skip, run_seq, run_map, run_many, run_up_to, run_until, run_listed, run_recursive}
 use Rattle.ir_tree.specs.Shape.{TyShape, ConstShape, number, boolean, null, undef, poison, zero_value, text, elements, fields, global, address, TypedShape, typed, typed_row}
-use Rattle.ir_lex.specs.declared.words.Keyword.TheVariants.{True, False, Null, Undef, Poison, ZeroInitializer, GetElementPtr, InBounds, Nuw}
-use Rattle.const_grammar.specs.Symbols.{Symbol, KeywordSymbol, GlobalSymbol, NumberSymbol, TextSymbol, MarkSymbol}
+use Rattle.ir_words.specs.declared.words.Keyword.TheVariants.{True, False, Null, Undef, Poison, ZeroInitializer, GetElementPtr, InBounds, Nuw}
+use Rattle.ir_lex.specs.Symbols.{Symbol, KeywordSymbol, GlobalSymbol, NumberSymbol, TextSymbol, MarkSymbol}
 use Rattle.const_grammar.specs.Types.{punct, ty, run_ty}
 
 -- a flag of `getelementptr`: whether it is `inbounds`

@@ -1,4 +1,3 @@
-pub mod Symbols
 pub mod Types
 pub mod Constants
 pub mod Spelling

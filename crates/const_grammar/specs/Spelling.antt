@@ -1,8 +1,8 @@
 -- How types and constants are spelled: one list of symbols for each.
 use Rattle.std.specs.Prelude.{ℕ, ◌<◌, ◌^◌, Bool, true, false, List, [], ◌∷◌, ◌++◌, pos}
 use Rattle.ir_tree.specs.Shape.{TyShape, integer, pointer, void, array, structure, named, TyShapes, no_types, types, ConstShape, number, boolean, null, undef, poison, zero_value, text, elements, fields, global, address, TypedShape, typed, TypedShapes, no_values, values}
-use Rattle.ir_lex.specs.declared.words.Keyword.TheVariants.{Ptr, Void, X, True, False, Null, Undef, Poison, ZeroInitializer, GetElementPtr, InBounds}
-use Rattle.const_grammar.specs.Symbols.{Symbol, KeywordSymbol, WidthSymbol, LocalSymbol, GlobalSymbol, NumberSymbol, TextSymbol, MarkSymbol}
+use Rattle.ir_words.specs.declared.words.Keyword.TheVariants.{Integer, Ptr, Void, X, True, False, Null, Undef, Poison, ZeroInitializer, GetElementPtr, InBounds}
+use Rattle.ir_lex.specs.Symbols.{Symbol, KeywordSymbol, LocalSymbol, GlobalSymbol, NumberSymbol, TextSymbol, MarkSymbol}
 
 -- symbols between `{` and `}`, or `<{` and `}>`
 abbrev pub in_braces : Bool → List Symbol → List Symbol
@@ -11,7 +11,7 @@ in_braces true ss = MarkSymbol 60 ∷ MarkSymbol 123 ∷ ((ss ++ MarkSymbol 125 
 
 unfoldable mutual
   pub ty_spelling : TyShape → List Symbol
-  ty_spelling (integer bits) = WidthSymbol bits ∷ []
+  ty_spelling (integer bits) = KeywordSymbol (Integer bits) ∷ []
   ty_spelling pointer = KeywordSymbol Ptr ∷ []
   ty_spelling void = KeywordSymbol Void ∷ []
   ty_spelling (array count element) =

@@ -5,8 +5,8 @@ use Rattle.std.specs.Prelude.{ℕ, ◌^◌, ◌==◌, Bool, nat_lt, ◌&&◌, tr
 use Rattle.ir_grammar.specs.Language.{Lang, Mark, mark, empty, pick, one, skip, seq, map_to, up_to, listed, recursive}
 use Rattle.ir_grammar.specs.Reader.{Reader, run_empty, run_pick, run_one, run_skip, run_seq, run_map, run_up_to, run_listed, run_recursive}
 use Rattle.ir_tree.specs.Shape.{TyShape, integer, pointer, void, array, structure, named, ty_row}
-use Rattle.ir_lex.specs.declared.words.Keyword.TheVariants.{Ptr, Void, X}
-use Rattle.const_grammar.specs.Symbols.{Symbol, KeywordSymbol, WidthSymbol, LocalSymbol, NumberSymbol, MarkSymbol}
+use Rattle.ir_words.specs.declared.words.Keyword.TheVariants.{Integer, Ptr, Void, X}
+use Rattle.ir_lex.specs.Symbols.{Symbol, KeywordSymbol, LocalSymbol, NumberSymbol, MarkSymbol}
 
 -- one of the marks `=`, `,`, `*`, `|` and the brackets, by its byte
 abbrev pub punct : ℕ → Symbol → Option Mark
@@ -39,7 +39,7 @@ abbrev pub is_width : ℕ → Bool
 is_width bits = nat_lt 0 bits && nat_lt bits 65
 
 abbrev pub ty_head : Symbol → Option TyHead
-ty_head (WidthSymbol bits) = if is_width bits then Some (WholeType (integer bits)) else None
+ty_head (KeywordSymbol (Integer bits)) = if is_width bits then Some (WholeType (integer bits)) else None
 ty_head (KeywordSymbol Ptr) = Some (WholeType pointer)
 ty_head (KeywordSymbol Void) = Some (WholeType void)
 ty_head (LocalSymbol name) = Some (WholeType (named name))

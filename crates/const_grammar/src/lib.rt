@@ -5,7 +5,7 @@
 
 ghost use Rattle.std.specs.Prelude.{◌≡◌, List, length, [], ◌++◌};
 ghost use Rattle.ir_grammar.specs.FirstWrong.{Reads};
-ghost use Rattle.const_grammar.specs.Symbols.{Symbol};
+ghost use Rattle.ir_lex.specs.Symbols.{Symbol};
 ghost use Rattle.const_grammar.specs.Types.{ty, run_ty};
 ghost use Rattle.const_grammar.specs.Constants.{const, run_const};
 
