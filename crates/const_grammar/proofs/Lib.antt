@@ -1,6 +1,8 @@
 pub mod Sides
 pub mod TypeLaw
 pub mod ConstLaw
+pub mod Depths
+pub mod Ends
 pub mod Values
 pub mod TypeFits
 pub mod ConstFits

@@ -20,7 +20,7 @@ punct_is b (TextSymbol n) h = cc
 punct_is b (MarkSymbol c) h = mark_byte b c (b == c) refl h
 punct_is b OtherSymbol h = cc
 
-is_false : (b : Bool) → (b ≡ true → ⊥) → b ≡ false
+pub is_false : (b : Bool) → (b ≡ true → ⊥) → b ≡ false
 is_false true h = absurd (h refl)
 is_false false h = refl
 
