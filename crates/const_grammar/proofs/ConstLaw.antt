@@ -1,16 +1,16 @@
 -- The law of the reader of constants.
-use Rattle.std.proofs.Common.{◌≡◌, ℕ, suc, ◌≤◌, Bool, true, false, List, [], ◌∷◌, refl, length, arith, Some, subst, sym}
-use Rattle.ir_grammar.specs.Language.{Lang, mark, empty, skip, one, seq, up_to, listed, many, until}
-use Rattle.ir_grammar.specs.Reader.{Reader, heads, run_recursive, run_many, run_one}
+use Rattle.std.proofs.Common.{◌≡◌, ℕ, suc, true, false, [], ◌∷◌, refl, Some, subst, sym}
+use Rattle.ir_grammar.specs.Language.{Lang, mark, empty, one, many}
+use Rattle.ir_grammar.specs.Reader.{Reader, heads, run_many, run_one}
 use Rattle.ir_grammar.proofs.Good.{never, Good, Starts}
 use Rattle.ir_grammar.proofs.Sides.{starts_pick, starts_recursive, starts_map, starts_seq, joins_never, joins_starts}
 use Rattle.ir_grammar.proofs.Laws.{good_one, good_pick, good_map, good_seq, good_empty, good_next}
 use Rattle.ir_grammar.proofs.Lists.{good_listed, good_until, good_many}
 use Rattle.ir_grammar.proofs.Recursion.{Regular, regular_self, regular_fixed, regular_pick, regular_map, regular_seq, regular_skip, regular_up_to, regular_until, regular_listed, good_recursive}
-use Rattle.ir_tree.specs.Shape.{ConstShape, null, TypedShape}
+use Rattle.ir_tree.specs.Shape.{ConstShape, null}
 use Rattle.ir_words.specs.declared.words.Keyword.TheVariants.{Null, Nuw}
 use Rattle.ir_lex.specs.Symbols.{Symbol, KeywordSymbol, MarkSymbol}
-use Rattle.const_grammar.specs.Types.{punct, ty_head, ty, run_ty}
+use Rattle.const_grammar.specs.Types.{punct, ty_head, ty}
 use Rattle.const_grammar.specs.Constants.{address_flag, ConstHead, WholeConst, ElementsOpen, ValuesOpen, PackedValuesOpen, AddressOpen, const_head, typed_const, typed_list, operands, const_rest, const_rule, const, run_typed_const, run_typed_list, run_operands, run_const_rest, run_const_rule, run_const}
 use Rattle.const_grammar.proofs.Sides.{punct_is, punct_apart}
 use Rattle.const_grammar.proofs.TypeLaw.{starts_ty, good_ty, good_closed_by}

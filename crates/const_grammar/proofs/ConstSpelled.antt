@@ -1,7 +1,7 @@
 -- The spelling of a constant is a word of the grammar, so it reads back.
-use Rattle.std.proofs.Common.{◌≡◌, ℕ, Bool, true, false, List, [], ◌∷◌, ◌++◌, refl, sym, ◌∙◌, ap, Some, inl, inr}
+use Rattle.std.proofs.Common.{◌≡◌, ℕ, Bool, true, false, List, [], ◌∷◌, ◌++◌, refl, ◌∙◌, ap, Some, inl, inr}
 use Rattle.std.specs.List.{list_any}
-use Rattle.ir_grammar.specs.Language.{Lang, mark, one, many, skip, listed}
+use Rattle.ir_grammar.specs.Language.{mark, one, many, skip}
 use Rattle.ir_grammar.proofs.Recursion.{recursive_in}
 use Rattle.ir_tree.specs.Shape.{TyShape, ConstShape, number, boolean, null, undef, poison, zero_value, text, elements, fields, global, address, TypedShape, typed, TypedShapes, no_values, values, typed_row}
 use Rattle.ir_words.specs.declared.words.Keyword.TheVariants.{True, False, Null, Undef, Poison, ZeroInitializer, GetElementPtr, InBounds}
@@ -35,10 +35,21 @@ spelled_fields : (row : TypedShapes) (packed : Bool) → typed_list 125 const (t
 spelled_fields row false word =
     word_of_rule _ _ (MarkSymbol 123, typed_list_spelling row ++ MarkSymbol 125 ∷ [], ValuesOpen, refl, refl, (row_values row, word, ap (λ z. fields z false) (row_same row)))
 spelled_fields row true word =
-    word_of_rule _ _
-    (MarkSymbol 60, MarkSymbol 123 ∷ ((typed_list_spelling row ++ MarkSymbol 125 ∷ []) ++ MarkSymbol 62 ∷ []), PackedValuesOpen, refl, refl,
-    (MarkSymbol 123, (typed_list_spelling row ++ MarkSymbol 125 ∷ []) ++ MarkSymbol 62 ∷ [], mark, refl, refl,
-    (row_values row, ((row_values row, mark), (typed_list_spelling row ++ MarkSymbol 125 ∷ [], MarkSymbol 62 ∷ [], refl, word, closed 62 refl), refl), ap (λ z. fields z true) (row_same row))))
+    word_of_rule _ _ (
+      MarkSymbol 60,
+      MarkSymbol 123 ∷ ((typed_list_spelling row ++ MarkSymbol 125 ∷ []) ++ MarkSymbol 62 ∷ []),
+      PackedValuesOpen,
+      refl,
+      refl,
+      (
+        MarkSymbol 123,
+        (typed_list_spelling row ++ MarkSymbol 125 ∷ []) ++ MarkSymbol 62 ∷ [],
+        mark,
+        refl,
+        refl,
+        (row_values row, ((row_values row, mark), (typed_list_spelling row ++ MarkSymbol 125 ∷ [], MarkSymbol 62 ∷ [], refl, word, closed 62 refl), refl), ap (λ z. fields z true) (row_same row)),
+      ),
+    )
 
 -- the flags that are written for an address
 abbrev flags_of : Bool → List Bool
@@ -64,22 +75,57 @@ spelled_address inbounds t base row ty_word base_word row_word =
     let last : List Symbol = typed_more_spelling row ++ MarkSymbol 41 ∷ [] in
     let both : List Symbol = typed_spelling base ++ last in
     let all : List Symbol = ty_spelling t ++ MarkSymbol 44 ∷ both in
-    word_of_rule _ _
-    (KeywordSymbol GetElementPtr, flag_spelling inbounds ++ MarkSymbol 40 ∷ all, AddressOpen, refl, refl,
-    ((flags_of inbounds, (t, (base, row_values row))),
-    (flag_spelling inbounds, MarkSymbol 40 ∷ all, refl, flags_spelled inbounds,
-    (MarkSymbol 40, all, mark, refl, refl,
-    (ty_spelling t, MarkSymbol 44 ∷ both, refl, ty_word,
-    (MarkSymbol 44, both, mark, refl, refl,
-    (typed_spelling base, last, refl, base_word,
-    ((row_values row, mark), (typed_more_spelling row, MarkSymbol 41 ∷ [], refl, row_word, closed 41 refl), refl)))))),
-    address_same inbounds t base row))
+    word_of_rule _ _ (
+      KeywordSymbol GetElementPtr,
+      flag_spelling inbounds ++ MarkSymbol 40 ∷ all,
+      AddressOpen,
+      refl,
+      refl,
+      (
+        (flags_of inbounds, (t, (base, row_values row))),
+        (
+          flag_spelling inbounds,
+          MarkSymbol 40 ∷ all,
+          refl,
+          flags_spelled inbounds,
+          (
+            MarkSymbol 40,
+            all,
+            mark,
+            refl,
+            refl,
+            (
+              ty_spelling t,
+              MarkSymbol 44 ∷ both,
+              refl,
+              ty_word,
+              (
+                MarkSymbol 44,
+                both,
+                mark,
+                refl,
+                refl,
+                (
+                  typed_spelling base,
+                  last,
+                  refl,
+                  base_word,
+                  ((row_values row, mark), (typed_more_spelling row, MarkSymbol 41 ∷ [], refl, row_word, closed 41 refl), refl),
+                ),
+              ),
+            ),
+          ),
+        ),
+        address_same inbounds t base row,
+      ),
+    )
   where
     address_same : (b : Bool) (t : TyShape) (base : TypedShape) (row : TypedShapes) → address b t base row ≡ address (list_any (λ x. x) (flags_of b)) t base (typed_row (row_values row))
     address_same b t base row = ap (λ z. address z t base row) (flags_any b) ∙ ap (address (list_any (λ x. x) (flags_of b)) t base) (row_same row)
 
 mutual
   unfolding const_spelling typed_spelling typed_list_spelling typed_more_spelling FitsConst FitsTyped FitTyped
+
   -- the spelling of a constant spells the constant
   pub spelled_const : (c : ConstShape) → FitsConst c → const (const_spelling c) c
   spelled_const (number z) h = whole _ _ (NumberSymbol z, [], WholeConst (number z), refl, refl, (refl, refl))

@@ -1,5 +1,5 @@
 -- The first bracket that is the 65th open one: it is found by counting, and there is one at most.
-use Rattle.std.proofs.Common.{◌≡◌, ℕ, zero, suc, ◌+◌, ◌-◌, ◌==◌, ◌||◌, ◌≤◌, ◌<◌, Bool, true, false, List, [], ◌∷◌, ◌++◌, length, take, drop, Option, None, Some, refl, sym, ◌∙◌, ap, subst, arith, if◌then◌else◌, eqb-true, eq-eqb}
+use Rattle.std.proofs.Common.{◌≡◌, ℕ, suc, ◌+◌, ◌-◌, ◌==◌, ◌≤◌, ◌<◌, Bool, true, false, List, [], ◌∷◌, ◌++◌, length, take, Option, None, Some, refl, sym, ap, subst, arith, if◌then◌else◌, eqb-true, eq-eqb}
 use Rattle.std.specs.Option.{option_map}
 use Rattle.ir_lex.specs.Symbols.{Symbol, MarkSymbol}
 use Rattle.const_grammar.specs.Depth.{is_opening, is_closing, open_behind, open_from, IsTooDeep}

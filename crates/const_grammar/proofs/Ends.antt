@@ -1,7 +1,6 @@
 -- What a rule ends with.
-use Rattle.std.proofs.Common.{◌≡◌, ℕ, Bool, true, false, List, [], ◌∷◌, ◌++◌, Option, Some, refl, sym, ◌∙◌, ap, append_assoc, inl, inr, subst}
-use Rattle.ir_grammar.specs.Language.{Lang, empty, pick, one, skip, seq, map_to, up_to, items, until, many, listed}
-use Rattle.ir_grammar.specs.Reader.{heads}
+use Rattle.std.proofs.Common.{◌≡◌, Bool, true, List, [], ◌∷◌, ◌++◌, Option, Some, sym, ◌∙◌, ap, append_assoc, inl, inr}
+use Rattle.ir_grammar.specs.Language.{Lang, empty, one, skip, seq, map_to, up_to, items, until, many, listed}
 
 -- each list that L spells has a last symbol, and p holds of it
 pub record Ends {S V : Type 0} (p : S → Bool) (L : Lang S V) : Type 0 where
@@ -38,9 +37,9 @@ pub ends_listed : {S K C V : Type 0} {p : S → Bool} (separator : S → Option 
     → ((t : S) (k : C) → close t ≡ Some k → p t ≡ true) → Ends p (listed separator close a)
 ends_listed separator close a h = record {
   at = λ ts v word. elim word [
-      | inl u ↦ (ends_empty close [] h).at ts v u
-      | inr u ↦ (ends_up_to close (items separator a) h).at ts v u
-    ];
+    | inl u ↦ (ends_empty close [] h).at ts v u
+    | inr u ↦ (ends_up_to close (items separator a) h).at ts v u
+  ];
 }
 
 pub ends_until : {S C V : Type 0} {p : S → Bool} (close : S → Option C) (a : Lang S V) → ((t : S) (k : C) → close t ≡ Some k → p t ≡ true) → Ends p (until close a)

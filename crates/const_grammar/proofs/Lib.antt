@@ -3,6 +3,8 @@ pub mod TypeLaw
 pub mod ConstLaw
 pub mod Depths
 pub mod Ends
+pub mod DeepLaw
+pub mod ClosedEnds
 pub mod Values
 pub mod TypeFits
 pub mod ConstFits

@@ -1,6 +1,6 @@
 -- Marks are told apart by their bytes.
-use Rattle.std.proofs.Common.{◌≡◌, ℕ, ◌==◌, Bool, true, false, Option, None, Some, refl, sym, ◌∙◌, ap, subst, eqb-true, is_some, if◌then◌else◌}
-use Rattle.ir_grammar.specs.Language.{Mark, mark}
+use Rattle.std.proofs.Common.{◌≡◌, ℕ, ◌==◌, Bool, true, false, Option, None, Some, refl, sym, ap, subst, eqb-true, is_some, if◌then◌else◌}
+use Rattle.ir_grammar.specs.Language.{mark}
 use Rattle.ir_grammar.specs.Reader.{heads}
 use Rattle.ir_lex.specs.Symbols.{Symbol, KeywordSymbol, LocalSymbol, GlobalSymbol, LabelSymbol, NumberSymbol, TextSymbol, MarkSymbol, OtherSymbol}
 use Rattle.const_grammar.specs.Types.{punct}

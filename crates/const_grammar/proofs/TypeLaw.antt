@@ -1,10 +1,10 @@
 -- The law of the reader of types.
-use Rattle.std.proofs.Common.{◌≡◌, ℕ, suc, ◌≤◌, Bool, true, false, List, [], ◌∷◌, refl, length, arith, pos, Some}
-use Rattle.ir_grammar.specs.Language.{Lang, mark, empty, skip, one, seq, up_to, listed, many}
-use Rattle.ir_grammar.specs.Reader.{Reader, heads, run_recursive, run_up_to, run_listed}
+use Rattle.std.proofs.Common.{◌≡◌, ℕ, suc, [], ◌∷◌, refl, pos, Some}
+use Rattle.ir_grammar.specs.Language.{Lang, mark, empty, one, up_to, listed}
+use Rattle.ir_grammar.specs.Reader.{Reader, heads, run_up_to, run_listed}
 use Rattle.ir_grammar.proofs.Good.{never, Good, Starts}
 use Rattle.ir_grammar.proofs.Sides.{starts_pick, starts_recursive, joins_never}
-use Rattle.ir_grammar.proofs.Laws.{good_one, good_pick, good_skip, good_map, good_seq, good_less, good_empty, good_next}
+use Rattle.ir_grammar.proofs.Laws.{good_one, good_pick, good_map, good_seq, good_empty, good_next}
 use Rattle.ir_grammar.proofs.Lists.{good_listed}
 use Rattle.ir_grammar.proofs.Recursion.{Regular, regular_self, regular_fixed, regular_pick, regular_map, regular_seq, regular_skip, regular_up_to, regular_listed, good_recursive}
 use Rattle.ir_tree.specs.Shape.{TyShape, pointer}

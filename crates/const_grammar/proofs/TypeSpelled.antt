@@ -1,12 +1,12 @@
 -- The spelling of a type is a word of the grammar, so it reads back.
-use Rattle.std.proofs.Common.{◌≡◌, ℕ, ◌<◌, ◌^◌, Bool, true, false, List, [], ◌∷◌, ◌++◌, refl, sym, ◌∙◌, ap, pos, Some, None, inl, inr, subst, nat_lt, if◌then◌else◌}
+use Rattle.std.proofs.Common.{◌≡◌, ℕ, ◌<◌, ◌^◌, Bool, true, false, List, [], ◌∷◌, ◌++◌, refl, ap, pos, Some, None, inl, inr, if◌then◌else◌}
 use Rattle.std.proofs.lemmas.Bool.{lt-ltb}
-use Rattle.ir_grammar.specs.Language.{Lang, mark, one, many, skip, listed}
+use Rattle.ir_grammar.specs.Language.{mark, one, many, skip, listed}
 use Rattle.ir_grammar.proofs.Recursion.{recursive_in}
 use Rattle.ir_tree.specs.Shape.{TyShape, integer, pointer, void, array, structure, named, TyShapes, no_types, types, ty_row}
 use Rattle.ir_words.specs.declared.words.Keyword.TheVariants.{Integer, Ptr, Void, X}
 use Rattle.ir_lex.specs.Symbols.{Symbol, KeywordSymbol, LocalSymbol, NumberSymbol, MarkSymbol}
-use Rattle.const_grammar.specs.Types.{punct, times, count, WholeType, ArrayOpen, FieldsOpen, PackedOpen, ty_head, ty_rule, ty}
+use Rattle.const_grammar.specs.Types.{punct, count, WholeType, ArrayOpen, FieldsOpen, PackedOpen, ty_head, ty_rule, ty}
 use Rattle.const_grammar.specs.Spelling.{in_braces, ty_spelling, ty_list_spelling, ty_more_spelling, FitsTy, FitTys}
 use Rattle.ir_tree.proofs.Grows.{and_both}
 use Rattle.const_grammar.proofs.TypeLaw.{regular_ty}
@@ -44,25 +44,59 @@ spelled_structure : (row : TyShapes) (packed : Bool) → listed (punct 44) (punc
 spelled_structure row false word =
     word_of_rule _ _ (MarkSymbol 123, ty_list_spelling row ++ MarkSymbol 125 ∷ [], FieldsOpen, refl, refl, (row_types row, word, ap (λ z. structure z false) (row_same row)))
 spelled_structure row true word =
-    word_of_rule _ _
-    (MarkSymbol 60, MarkSymbol 123 ∷ ((ty_list_spelling row ++ MarkSymbol 125 ∷ []) ++ MarkSymbol 62 ∷ []), PackedOpen, refl, refl,
-    (MarkSymbol 123, (ty_list_spelling row ++ MarkSymbol 125 ∷ []) ++ MarkSymbol 62 ∷ [], mark, refl, refl,
-    (row_types row, ((row_types row, mark), (ty_list_spelling row ++ MarkSymbol 125 ∷ [], MarkSymbol 62 ∷ [], refl, word, closed 62 refl), refl), ap (λ z. structure z true) (row_same row))))
+    word_of_rule _ _ (
+      MarkSymbol 60,
+      MarkSymbol 123 ∷ ((ty_list_spelling row ++ MarkSymbol 125 ∷ []) ++ MarkSymbol 62 ∷ []),
+      PackedOpen,
+      refl,
+      refl,
+      (
+        MarkSymbol 123,
+        (ty_list_spelling row ++ MarkSymbol 125 ∷ []) ++ MarkSymbol 62 ∷ [],
+        mark,
+        refl,
+        refl,
+        (row_types row, ((row_types row, mark), (ty_list_spelling row ++ MarkSymbol 125 ∷ [], MarkSymbol 62 ∷ [], refl, word, closed 62 refl), refl), ap (λ z. structure z true) (row_same row)),
+      ),
+    )
 
 mutual
   unfolding ty_spelling ty_list_spelling ty_more_spelling FitsTy FitTys
+
   -- the spelling of a type spells the type
   pub spelled_ty : (t : TyShape) → FitsTy t → ty (ty_spelling t) t
   spelled_ty (integer bits) h = word_of_rule _ _ (KeywordSymbol (Integer bits), [], WholeType (integer bits), refl, width_known bits h.0 h.1, (refl, refl))
   spelled_ty pointer h = word_of_rule _ _ (KeywordSymbol Ptr, [], WholeType pointer, refl, refl, (refl, refl))
   spelled_ty void h = word_of_rule _ _ (KeywordSymbol Void, [], WholeType void, refl, refl, (refl, refl))
   spelled_ty (array n t) h =
-      word_of_rule _ _
-      (MarkSymbol 91, (NumberSymbol (pos n) ∷ KeywordSymbol X ∷ ty_spelling t) ++ MarkSymbol 93 ∷ [], ArrayOpen, refl, refl,
-      ((n, t), (((n, t), mark), (NumberSymbol (pos n) ∷ KeywordSymbol X ∷ ty_spelling t, MarkSymbol 93 ∷ [], refl,
-      (NumberSymbol (pos n) ∷ [], KeywordSymbol X ∷ ty_spelling t, refl, (NumberSymbol (pos n), [], n, refl, count_known n h.0, (refl, refl)),
-      (KeywordSymbol X, ty_spelling t, mark, refl, refl, spelled_ty t h.1)),
-      closed 93 refl), refl), refl))
+      word_of_rule _ _ (
+        MarkSymbol 91,
+        (NumberSymbol (pos n) ∷ KeywordSymbol X ∷ ty_spelling t) ++ MarkSymbol 93 ∷ [],
+        ArrayOpen,
+        refl,
+        refl,
+        (
+          (n, t),
+          (
+            ((n, t), mark),
+            (
+              NumberSymbol (pos n) ∷ KeywordSymbol X ∷ ty_spelling t,
+              MarkSymbol 93 ∷ [],
+              refl,
+              (
+                NumberSymbol (pos n) ∷ [],
+                KeywordSymbol X ∷ ty_spelling t,
+                refl,
+                (NumberSymbol (pos n), [], n, refl, count_known n h.0, (refl, refl)),
+                (KeywordSymbol X, ty_spelling t, mark, refl, refl, spelled_ty t h.1),
+              ),
+              closed 93 refl,
+            ),
+            refl,
+          ),
+          refl,
+        ),
+      )
   spelled_ty (structure row packed) h = spelled_structure row packed (spelled_row row h)
   spelled_ty (named name) h = word_of_rule _ _ (LocalSymbol name, [], WholeType (named name), refl, refl, (refl, refl))
 

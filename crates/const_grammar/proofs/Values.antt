@@ -1,6 +1,6 @@
 -- What holds of each item's value holds of each value of a list.
-use Rattle.std.proofs.Common.{◌≡◌, ℕ, List, [], ◌∷◌, Option, sym, subst, inl, inr}
-use Rattle.ir_grammar.specs.Language.{Lang, many, skip, items, listed, until}
+use Rattle.std.proofs.Common.{List, [], ◌∷◌, Option, sym, subst, inl, inr}
+use Rattle.ir_grammar.specs.Language.{Lang, many, skip, listed}
 
 -- the fact holds of each value
 abbrev pub Every : {V : Type 0} → (V → Type 0) → List V → Type 0
@@ -19,10 +19,10 @@ every_skip separator a P h ts v word = h word.1 v word.5
 pub every_listed : {S K C V : Type 0} (separator : S → Option K) (close : S → Option C) (a : Lang S V) (P : V → Type 0)
     → ((ts : List S) (v : V) → a ts v → P v) → (ts : List S) (vs : List V) → listed separator close a ts vs → Every P vs
 every_listed separator close a P h ts vs word = elim word [
-    | inl u ↦ subst (Every P) (sym u.5.1) tt
-    | inr u ↦
-        let row = u.1.3 in
-        let first = h row.1.0 row.0.0 row.1.3 in
-        let rest = every_many (skip separator a) P (every_skip separator a P h) row.1.1 row.0.1 row.1.4 in
-        subst (Every P) (sym u.2) (subst (Every P) (sym row.2) (first, rest))
-  ]
+  | inl u ↦ subst (Every P) (sym u.5.1) tt
+  | inr u ↦
+      let row = u.1.3 in
+      let first = h row.1.0 row.0.0 row.1.3 in
+      let rest = every_many (skip separator a) P (every_skip separator a P h) row.1.1 row.0.1 row.1.4 in
+      subst (Every P) (sym u.2) (subst (Every P) (sym row.2) (first, rest))
+]

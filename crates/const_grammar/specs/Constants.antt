@@ -6,7 +6,7 @@
 --     tc    = ty const
 use Rattle.std.specs.Prelude.{ℕ, ◌==◌, Bool, true, false, List, Option, None, Some, if◌then◌else◌}
 use Rattle.std.specs.List.{list_any}
-use Rattle.ir_grammar.specs.Language.{Lang, Mark, mark, empty, pick, one, skip, seq, map_to, many, up_to, until, listed, recursive}
+use Rattle.ir_grammar.specs.Language.{Lang, empty, pick, one, skip, seq, map_to, many, up_to, until, listed, recursive}
 use Rattle.ir_grammar.specs.Reader.{Reader, heads, run_empty, run_pick, run_one, run_skip, run_seq, run_map, run_many, run_up_to, run_until, run_listed, run_recursive}
 use Rattle.ir_tree.specs.Shape.{TyShape, ConstShape, number, boolean, null, undef, poison, zero_value, text, elements, fields, global, address, TypedShape, typed, typed_row}
 use Rattle.ir_words.specs.declared.words.Keyword.TheVariants.{True, False, Null, Undef, Poison, ZeroInitializer, GetElementPtr, InBounds, Nuw}

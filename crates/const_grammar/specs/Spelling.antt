@@ -1,5 +1,5 @@
 -- How types and constants are spelled: one list of symbols for each.
-use Rattle.std.specs.Prelude.{ℕ, ◌<◌, ◌^◌, Bool, true, false, List, [], ◌∷◌, ◌++◌, pos}
+use Rattle.std.specs.Prelude.{◌<◌, ◌^◌, Bool, true, false, List, [], ◌∷◌, ◌++◌, pos}
 use Rattle.ir_tree.specs.Shape.{TyShape, integer, pointer, void, array, structure, named, TyShapes, no_types, types, ConstShape, number, boolean, null, undef, poison, zero_value, text, elements, fields, global, address, TypedShape, typed, TypedShapes, no_values, values}
 use Rattle.ir_words.specs.declared.words.Keyword.TheVariants.{Integer, Ptr, Void, X, True, False, Null, Undef, Poison, ZeroInitializer, GetElementPtr, InBounds}
 use Rattle.ir_lex.specs.Symbols.{Symbol, KeywordSymbol, LocalSymbol, GlobalSymbol, NumberSymbol, TextSymbol, MarkSymbol}

@@ -1,7 +1,7 @@
 -- The grammar of types, and its reader:
 --     ty = ID | "ptr" | "void" | Local | "[" Int "x" ty "]"
 --        | "{" [ ty { "," ty } ] "}" | "<" "{" [ ty { "," ty } ] "}" ">"
-use Rattle.std.specs.Prelude.{ℕ, ◌^◌, ◌==◌, Bool, nat_lt, ◌&&◌, true, false, List, Option, None, Some, pos, negsuc, if◌then◌else◌}
+use Rattle.std.specs.Prelude.{ℕ, ◌^◌, ◌==◌, Bool, nat_lt, ◌&&◌, true, false, Option, None, Some, pos, if◌then◌else◌}
 use Rattle.ir_grammar.specs.Language.{Lang, Mark, mark, empty, pick, one, skip, seq, map_to, up_to, listed, recursive}
 use Rattle.ir_grammar.specs.Reader.{Reader, run_empty, run_pick, run_one, run_skip, run_seq, run_map, run_up_to, run_listed, run_recursive}
 use Rattle.ir_tree.specs.Shape.{TyShape, integer, pointer, void, array, structure, named, ty_row}
