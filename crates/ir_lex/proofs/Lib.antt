@@ -9,4 +9,5 @@ pub mod Paths
 pub mod Pieces
 pub mod Rules
 pub mod Strings
+pub mod SymbolParts
 pub mod Unique

@@ -4,7 +4,7 @@ use Rattle.ir_lex.specs.Lengths.{begins_by}
 use Rattle.ir_words.specs.Words.{keyword_of}
 use Rattle.ir_lex.specs.declared.token.Token.{Token}
 use Rattle.ir_lex.specs.declared.token.Kind.{Kind}
-use Rattle.ir_lex.specs.declared.token.Kind.TheVariants.{Local, Global, Label, Word}
+use Rattle.ir_lex.specs.declared.token.Kind.TheVariants.{Local, Global, CStr, Label, Word}
 use Rattle.ir_words.specs.declared.words.Keyword.{Keyword}
 use Rattle.ir_words.specs.declared.words.Keyword.TheVariants.{Other}
 
@@ -53,6 +53,14 @@ name_spelling text t = by_kind t.kind (spelling text t)
     by_kind Local w = unquoted (drop 1 w)
     by_kind Global w = unquoted (drop 1 w)
     by_kind Label w = unquoted (take (length w - 1) w)
+    by_kind _ w = []
+
+-- the bytes that spell those of a string behind `c`, without `c` and quotes
+abbrev pub text_spelling : List ℕ → Token → List ℕ
+text_spelling text t = by_kind t.kind (spelling text t)
+  where
+    by_kind : Kind → List ℕ → List ℕ
+    by_kind CStr w = unquoted (drop 1 w)
     by_kind _ w = []
 
 -- the name of a local, a global or a label

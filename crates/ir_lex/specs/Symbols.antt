@@ -1,13 +1,15 @@
 -- What a token means to a grammar: one symbol, which has no quotes, escapes, offsets and digits left.
-use Rattle.std.specs.Prelude.{ℕ, ℤ, pos, neg_ℤ, ◌+◌, ◌^◌, ◌==◌, ◌&&◌, if◌then◌else◌, nat_lt, List, [], ◌∷◌, drop, map, Option, None, Some}
+use Rattle.std.specs.Prelude.{ℕ, ℤ, pos, neg_ℤ, ◌+◌, ◌^◌, ◌==◌, ◌&&◌, if◌then◌else◌, nat_lt, List, [], ◌∷◌, map, Option, None, Some}
 use Rattle.std.specs.Option.{option_map}
 use Rattle.std.specs.Str.Parse.{digits_value}
-use Rattle.ir_words.specs.Words.{is_number, keyword_of}
-use Rattle.ir_lex.specs.Meaning.{spelling, name_of, unquoted, unescaped}
+use Rattle.ir_words.specs.Digits.{is_number}
+use Rattle.ir_words.specs.Words.{keyword_of}
+use Rattle.ir_lex.specs.Meaning.{spelling, name_of, text_spelling, unescaped}
 use Rattle.ir_lex.specs.declared.token.Token.{Token}
 use Rattle.ir_lex.specs.declared.token.Kind.{Kind}
 use Rattle.ir_lex.specs.declared.token.Kind.TheVariants.{Local, Global, CStr, Label, Int, Word, Punct}
 use Rattle.ir_words.specs.declared.words.Keyword.{Keyword}
+use Rattle.ir_words.specs.declared.words.Keyword.TheVariants.{Other}
 
 -- what a token means
 pub data Symbol : Type 0 where
@@ -57,10 +59,37 @@ symbol_of text t = by_kind t.kind (spelling text t)
     by_kind Global w = GlobalSymbol (name_of text t)
     by_kind Label w = LabelSymbol (name_of text t)
     by_kind Int w = number_symbol (integer_value w)
-    by_kind CStr w = TextSymbol (unescaped (unquoted (drop 1 w)))
+    by_kind CStr w = TextSymbol (unescaped (text_spelling text t))
     by_kind Punct w = mark_symbol w
     by_kind _ w = OtherSymbol
 
 -- what the tokens of a text mean
 abbrev pub symbols_of : List ℕ → List Token → List Symbol
 symbols_of text toks = map (symbol_of text) toks
+
+-- what the word of a symbol stands for; `Other` where it is no word
+abbrev pub keyword_in : Symbol → Keyword
+keyword_in (KeywordSymbol keyword) = keyword
+keyword_in _ = Other
+
+-- the name of a symbol, or none
+abbrev pub name_in : Symbol → List ℕ
+name_in (LocalSymbol name) = name
+name_in (GlobalSymbol name) = name
+name_in (LabelSymbol name) = name
+name_in _ = []
+
+-- the number of a symbol
+abbrev pub number_in : Symbol → Option ℤ
+number_in (NumberSymbol number) = Some number
+number_in _ = None
+
+-- the bytes of the string of a symbol, or none
+abbrev pub text_in : Symbol → List ℕ
+text_in (TextSymbol bytes) = bytes
+text_in _ = []
+
+-- the byte of punctuation of a symbol
+abbrev pub mark_in : Symbol → Option ℕ
+mark_in (MarkSymbol byte) = Some byte
+mark_in _ = None

@@ -10,6 +10,7 @@ mod numbers;
 mod phrases;
 mod quieting;
 mod scan;
+mod symbols;
 mod token;
 
 pub use error::LexError;
@@ -18,6 +19,7 @@ pub use laws::{at_most_one_token_list, tokens_lie_in_order};
 pub use meaning::{name_of, word_of};
 pub use quieting::quiet;
 pub use scan::tokens;
+pub use symbols::{mark_of, number_of, text_of};
 pub use token::{Kind, Token};
 
 #[cfg(test)]

@@ -1,7 +1,8 @@
 //! What a token means.
 
 ghost use Rattle.std.specs.Prelude.{◌≡◌, ◌≤◌, ◌<◌, length, true, drop, IfOk};
-ghost use Rattle.ir_lex.specs.Meaning.{spelling, is_hex, hex_value, escape, unescaped, unquoted, name_spelling, name_of, word_of};
+ghost use Rattle.ir_lex.specs.Meaning.{spelling, is_hex, hex_value, escape, unescaped, unquoted, name_spelling, text_spelling, name_of, word_of};
+ghost use Rattle.ir_lex.specs.Symbols.{symbol_of, keyword_in, name_in};
 ghost use Rattle.ir_lex.specs.Names.{begins_as};
 
 use crate::lengths::begins_with;
@@ -19,7 +20,8 @@ pub fn spelling<'a>(text: &'a [u8], token: &Token) -> &'a [u8]
 
 /// What the word of a token stands for; `Other` for a token that isn't a word.
 pub fn word_of(text: &[u8], token: &Token) -> Keyword
-    ensures { result ≡ word_of text.now token.now }
+    ensures value { result ≡ word_of text.now token.now }
+    ensures symbol { result ≡ keyword_in (symbol_of text.now token.now) }
 {
     match token.kind {
         Kind::Word => keyword_of(spelling(text, token)),
@@ -101,8 +103,18 @@ pub fn name_spelling<'a>(text: &'a [u8], token: &Token) -> &'a [u8]
     }
 }
 
+/// The bytes that spell those of a string behind `c`, without `c` and quotes.
+pub fn text_spelling<'a>(text: &'a [u8], token: &Token) -> &'a [u8]
+    ensures { result.now ≡ text_spelling text.now token.now }
+{
+    match token.kind {
+        Kind::CStr => unquoted(without_first(spelling(text, token))),
+        _ => &[],
+    }
+}
+
 /// The bytes that a text spells.
-fn unescaped(alloc: Global, body: &[u8]) -> Result<Vec<u8>, AllocError>
+pub fn unescaped(alloc: Global, body: &[u8]) -> Result<Vec<u8>, AllocError>
     ensures { IfOk result (λ bytes. bytes.items ≡ unescaped body.now) }
 {
     let mut bytes = Vec::new(alloc);
@@ -117,8 +129,10 @@ fn unescaped(alloc: Global, body: &[u8]) -> Result<Vec<u8>, AllocError>
 
 /// The name of a local, a global or a label: its bytes without `%`, `@`, `:` and quotes, with `\` forms
 /// read. Any other token has the empty name.
+#[tactic(auto, using(crate::proofs::SymbolParts::symbol_parts))]
 pub fn name_of(alloc: Global, text: &[u8], token: &Token) -> Result<Vec<u8>, AllocError>
-    ensures { IfOk result (λ name. name.items ≡ name_of text.now token.now) }
+    ensures value { IfOk result (λ name. name.items ≡ name_of text.now token.now) }
+    ensures symbol { IfOk result (λ name. name.items ≡ name_in (symbol_of text.now token.now)) }
 {
     unescaped(alloc, name_spelling(text, token))
 }

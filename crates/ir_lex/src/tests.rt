@@ -1,7 +1,7 @@
 //! Texts and their tokens, worked out by hand.
 
 use super::meaning::spelling;
-use super::{Kind, LexError, Token, name_of, quiet, tokens};
+use super::{Kind, LexError, Token, mark_of, name_of, number_of, quiet, text_of, tokens};
 use std::alloc::{AllocError, Global};
 use std::test::Fail;
 
@@ -220,6 +220,48 @@ fn kept_rows(rt: HostRuntime) -> Result<(), Fail> {
         for token in &toks {
             let name = name_of(rt.alloc(), text.as_bytes(), token)?;
             assert_eq!(rt; name.as_slice(), want.as_bytes(), "of {text:?}");
+        }
+    }
+    Ok(())
+}
+
+#[test]
+fn meanings(rt: HostRuntime) -> Result<(), Fail> {
+    let numbers = [
+        ("0", Some(0)),
+        ("-0", Some(0)),
+        ("007", Some(7)),
+        ("-17", Some(-17)),
+        ("170141183460469231731687303715884105727", Some(i128::MAX)),
+        ("-170141183460469231731687303715884105728", Some(i128::MIN)),
+        ("-170141183460469231731687303715884105727", Some(-i128::MAX)),
+        ("5:", None),
+        ("1.5", None),
+        ("i5", None),
+    ];
+    for (text, want) in numbers {
+        let toks = tokens(rt.alloc(), text.as_bytes())?;
+        assert_eq!(rt; toks.len(), 1, "of {text:?}");
+        for token in &toks {
+            assert!(rt; number_of(text.as_bytes(), token) == want, "of {text:?}");
+        }
+    }
+    let texts = [
+        ("c\"\"", "", None),
+        ("c\"a\\00b\\\\c\\zd\"", "a\0b\\c\\zd", None),
+        ("c\"%@:\"", "%@:", None),
+        ("\"a\"", "", None),
+        ("%a", "", None),
+        ("<", "", Some(b'<')),
+        ("=", "", Some(b'=')),
+    ];
+    for (text, want, mark) in texts {
+        let toks = tokens(rt.alloc(), text.as_bytes())?;
+        assert_eq!(rt; toks.len(), 1, "of {text:?}");
+        for token in &toks {
+            let bytes = text_of(rt.alloc(), text.as_bytes(), token)?;
+            assert_eq!(rt; bytes.as_slice(), want.as_bytes(), "of {text:?}");
+            assert!(rt; mark_of(text.as_bytes(), token) == mark, "of {text:?}");
         }
     }
     Ok(())

@@ -6,8 +6,8 @@ use Rattle.std.specs.Str.Parse.{digits_value}
 use Rattle.std.proofs.Math.Seq.{take-suc}
 use Rattle.std.proofs.lemmas.Bool.Decides.{nat_tests}
 use Rattle.std.proofs.lemmas.Int.Digits.{digits_value_push}
-use Rattle.std.proofs.lemmas.List.{take_at}
-use Rattle.ir_words.specs.Digits.{is_digit}
+use Rattle.std.proofs.lemmas.List.{take_at, take_all}
+use Rattle.ir_words.specs.Digits.{is_digit, is_number}
 use Rattle.ir_words.specs.Digits.{Passes}
 use Rattle.ir_words.proofs.Runs.{run_of}
 
@@ -41,3 +41,12 @@ value_step xs i v m h l e =
     let more : take (i + 1) xs ≡ take i xs ++ (get_or xs i 0 ∷ []) = rw add-one (take-suc xs i 0 l) in
     let pushed : digits_value 10 (take (i + 1) xs) ≡ digits_value 10 (take i xs) * 10 + (get_or xs i 0 - 48) = rw (more, ← digit) (digits_value_push 10 (take i xs) (get_or xs i 0)) in
     rw pushed (capped v (digits_value 10 (take i xs)) (get_or xs i 0 - 48) m e)
+
+all_digits : (w : List ℕ) → is_number w ≡ true → prefix_len is_digit w ≡ length w
+all_digits w h = grind (arith, nat_tests)
+
+-- what is a number is digits
+pub number_passes : (w : List ℕ) → is_number w ≡ true → Passes is_digit w
+number_passes w h =
+    let all : take (prefix_len is_digit w) w ≡ w = take_all _ w (omega (arith, all_digits w h)) in
+    subst (Passes is_digit) all (Passes-take is_digit w)

@@ -1,9 +1,14 @@
-use Rattle.std.specs.Prelude.{◌≡◌, ℕ, Bool, true, false, List, [], ◌∷◌}
+use Rattle.std.specs.Prelude.{◌≡◌, ℕ, Bool, true, false, not, ◌==◌, ◌&&◌, List, [], ◌∷◌, length}
+use Rattle.std.specs.List.{prefix_len}
 use Rattle.std.specs.Char.{is_ascii_digit}
 
 -- a decimal digit
 unfoldable pub is_digit : ℕ → Bool
 is_digit b = is_ascii_digit b
+
+-- digits, at least one
+abbrev pub is_number : List ℕ → Bool
+is_number w = not (prefix_len is_digit w == 0) && (prefix_len is_digit w == length w)
 
 -- each byte passes the test
 abbrev pub Passes : (ℕ → Bool) → List ℕ → Type 0

@@ -1,9 +1,8 @@
 -- What a word stands for.
-use Rattle.std.specs.Prelude.{ℕ, Bool, true, false, not, ◌==◌, ◌&&◌, if◌then◌else◌, nat_lt, List, [], ◌∷◌, length, map}
+use Rattle.std.specs.Prelude.{ℕ, Bool, true, false, not, ◌==◌, ◌&&◌, if◌then◌else◌, nat_lt, List, [], ◌∷◌, map}
 use Rattle.std.specs.Str.{bytes_eq}
 use Rattle.std.specs.Str.Parse.{digits_value}
-use Rattle.std.specs.List.{prefix_len}
-use Rattle.ir_words.specs.Digits.{is_digit}
+use Rattle.ir_words.specs.Digits.{is_number}
 use Rattle.ir_words.specs.declared.words.Keyword.{Keyword}
 use Rattle.ir_words.specs.declared.words.Keyword.TheVariants.{HeaderLine, Declare, Call, Align, Comdat, Group, Tail, Quiet, Integer, Outside, Other}
 use Rattle.ir_words.specs.declared.words.TheConstants.{LANGUAGE_WORDS, DROPPED_WORDS, OUTSIDE_WORDS}
@@ -12,10 +11,6 @@ use Rattle.ir_words.specs.declared.words.TheConstants.{LANGUAGE_WORDS, DROPPED_W
 unfoldable pub listed : List (List ℕ × Keyword) → List ℕ → Keyword
 listed [] w = Other
 listed (row ∷ rows) w = if bytes_eq row.0 w then row.1 else listed rows w
-
--- digits, at least one
-abbrev pub is_number : List ℕ → Bool
-is_number w = not (prefix_len is_digit w == 0) && (prefix_len is_digit w == length w)
 
 -- whether digits begin with a zero
 abbrev pub has_leading_zero : List ℕ → Bool

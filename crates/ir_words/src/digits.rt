@@ -3,7 +3,7 @@
 ghost use Rattle.std.specs.Prelude.{◌≡◌, ◌-◌, ◌^◌, ◌≤◌, min, length};
 ghost use Rattle.std.specs.List.{prefix_len};
 ghost use Rattle.std.specs.Str.Parse.{digits_value};
-ghost use Rattle.ir_words.specs.Digits.{Passes, is_digit};
+ghost use Rattle.ir_words.specs.Digits.{Passes, is_digit, is_number};
 
 /// A decimal digit.
 #[tactic(auto, unfolding(crate::specs::Digits::is_digit))]
@@ -33,4 +33,12 @@ pub fn value(digits: &[u8]) -> u128
             .saturating_add(u128::from(*digit - b'0'));
     }
     value
+}
+
+/// Whether these are digits, at least one.
+pub fn is_number(text: &[u8]) -> bool
+    ensures { result ≡ is_number text.now }
+{
+    let count = digit_count(text);
+    count > 0 && count == text.len()
 }

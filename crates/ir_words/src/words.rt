@@ -1,9 +1,10 @@
 //! The words of the language, each with what it stands for.
 
 ghost use Rattle.std.specs.Prelude.{◌≡◌, true, map};
-ghost use Rattle.ir_words.specs.Words.{listed, is_number, has_leading_zero, width_keyword, is_integer_word, integer_keyword, language_word, dropped_word, outside_word, is_other, keyword_of, is_header, is_caller, is_align, is_comdat, is_group_word, is_quiet_word, is_outside_word};
+ghost use Rattle.ir_words.specs.Digits.{is_number};
+ghost use Rattle.ir_words.specs.Words.{listed, has_leading_zero, width_keyword, is_integer_word, integer_keyword, language_word, dropped_word, outside_word, is_other, keyword_of, is_header, is_caller, is_align, is_comdat, is_group_word, is_quiet_word, is_outside_word};
 
-use crate::digits::{digit_count, value};
+use crate::digits::{is_number, value};
 
 /// What a word stands for.
 #[derive(Clone, Copy, Debug, PartialEq, Eq)]
@@ -373,14 +374,6 @@ fn listed(table: &[(&[u8], Keyword)], word: &[u8]) -> Keyword
         }
     }
     Keyword::Other
-}
-
-/// Whether these are digits, at least one.
-fn is_number(text: &[u8]) -> bool
-    ensures { result ≡ is_number text.now }
-{
-    let count = digit_count(text);
-    count > 0 && count == text.len()
 }
 
 /// Whether the digits begin with a zero.
