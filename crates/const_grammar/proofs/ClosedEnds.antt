@@ -4,7 +4,8 @@ use Rattle.ir_grammar.specs.Language.{Lang, Mark, one, many, skip, seq}
 use Rattle.ir_grammar.proofs.Recursion.{recursive_out}
 use Rattle.ir_tree.specs.Shape.{TyShape, ConstShape}
 use Rattle.ir_lex.specs.Symbols.{Symbol, MarkSymbol}
-use Rattle.const_grammar.specs.Types.{punct, count, times, TyHead, WholeType, ArrayOpen, FieldsOpen, PackedOpen, ty_head, ty_rest, ty_rule, ty}
+use Rattle.ir_symbols.specs.Marks.{punct}
+use Rattle.const_grammar.specs.Types.{count, times, TyHead, WholeType, ArrayOpen, FieldsOpen, PackedOpen, ty_head, ty_rest, ty_rule, ty}
 use Rattle.const_grammar.specs.Constants.{address_flag, ConstHead, WholeConst, ElementsOpen, ValuesOpen, PackedValuesOpen, AddressOpen, const_head, typed_const, const_rest, const_rule, const}
 use Rattle.const_grammar.proofs.Sides.{punct_is}
 use Rattle.const_grammar.proofs.Ends.{Ends, ends_skip, ends_seq, ends_map, ends_up_to, ends_listed, ends_until}

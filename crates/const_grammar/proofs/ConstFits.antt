@@ -4,7 +4,7 @@ use Rattle.ir_grammar.specs.Language.{Lang, nothing, nested, recursive, skip}
 use Rattle.ir_tree.specs.Shape.{ConstShape, number, boolean, null, undef, poison, zero_value, text, global, TypedShape, typed, typed_row}
 use Rattle.ir_words.specs.declared.words.Keyword.TheVariants.{True, False, Null, Undef, Poison, ZeroInitializer}
 use Rattle.ir_lex.specs.Symbols.{Symbol, KeywordSymbol, GlobalSymbol, NumberSymbol, TextSymbol, MarkSymbol}
-use Rattle.const_grammar.specs.Types.{punct}
+use Rattle.ir_symbols.specs.Marks.{punct}
 use Rattle.const_grammar.specs.Constants.{ConstHead, WholeConst, ElementsOpen, ValuesOpen, PackedValuesOpen, AddressOpen, const_head, typed_const, typed_list, const_rest, const_rule, const, address_of}
 use Rattle.const_grammar.specs.Spelling.{FitsConst, FitsTyped, FitTyped}
 use Rattle.const_grammar.proofs.Values.{Every, every_listed, every_many, every_skip}

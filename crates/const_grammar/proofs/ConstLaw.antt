@@ -10,7 +10,8 @@ use Rattle.ir_grammar.proofs.Recursion.{Regular, regular_self, regular_fixed, re
 use Rattle.ir_tree.specs.Shape.{ConstShape, null}
 use Rattle.ir_words.specs.declared.words.Keyword.TheVariants.{Null, Nuw}
 use Rattle.ir_lex.specs.Symbols.{Symbol, KeywordSymbol, MarkSymbol}
-use Rattle.const_grammar.specs.Types.{punct, ty_head, ty}
+use Rattle.ir_symbols.specs.Marks.{punct}
+use Rattle.const_grammar.specs.Types.{ty_head, ty}
 use Rattle.const_grammar.specs.Constants.{address_flag, ConstHead, WholeConst, ElementsOpen, ValuesOpen, PackedValuesOpen, AddressOpen, const_head, typed_const, typed_list, operands, const_rest, const_rule, const, run_typed_const, run_typed_list, run_operands, run_const_rest, run_const_rule, run_const}
 use Rattle.const_grammar.proofs.Sides.{punct_is, punct_apart}
 use Rattle.const_grammar.proofs.TypeLaw.{starts_ty, good_ty, good_closed_by}

@@ -3,7 +3,7 @@ use Rattle.std.proofs.Common.{◌≡◌, ℕ, ◌==◌, Bool, true, false, Optio
 use Rattle.ir_grammar.specs.Language.{mark}
 use Rattle.ir_grammar.specs.Reader.{heads}
 use Rattle.ir_lex.specs.Symbols.{Symbol, KeywordSymbol, LocalSymbol, GlobalSymbol, LabelSymbol, NumberSymbol, TextSymbol, MarkSymbol, OtherSymbol}
-use Rattle.const_grammar.specs.Types.{punct}
+use Rattle.ir_symbols.specs.Marks.{punct}
 
 mark_byte : (b c : ℕ) (same : Bool) → b == c ≡ same → is_some (if same then Some mark else None) ≡ true → MarkSymbol c ≡ MarkSymbol b
 mark_byte b c true e h = ap MarkSymbol (sym (eqb-true b c e))

@@ -4,7 +4,8 @@ use Rattle.ir_grammar.specs.Language.{Lang, nothing, nested, recursive}
 use Rattle.ir_tree.specs.Shape.{TyShape, integer, pointer, void, array, named, ty_row}
 use Rattle.ir_words.specs.declared.words.Keyword.TheVariants.{Integer, Ptr, Void}
 use Rattle.ir_lex.specs.Symbols.{Symbol, KeywordSymbol, LocalSymbol, GlobalSymbol, LabelSymbol, NumberSymbol, TextSymbol, MarkSymbol, OtherSymbol}
-use Rattle.const_grammar.specs.Types.{punct, count, is_width, TyHead, WholeType, ArrayOpen, FieldsOpen, PackedOpen, ty_head, ty_rest, ty_rule, ty}
+use Rattle.ir_symbols.specs.Marks.{punct}
+use Rattle.const_grammar.specs.Types.{count, is_width, TyHead, WholeType, ArrayOpen, FieldsOpen, PackedOpen, ty_head, ty_rest, ty_rule, ty}
 use Rattle.const_grammar.specs.Spelling.{FitsTy, FitTys}
 use Rattle.ir_tree.proofs.Grows.{and_left, and_right}
 use Rattle.const_grammar.proofs.Values.{Every, every_listed}

@@ -10,7 +10,8 @@ use Rattle.ir_grammar.proofs.Recursion.{Regular, regular_self, regular_fixed, re
 use Rattle.ir_tree.specs.Shape.{TyShape, pointer}
 use Rattle.ir_words.specs.declared.words.Keyword.TheVariants.{Ptr, X}
 use Rattle.ir_lex.specs.Symbols.{Symbol, KeywordSymbol, NumberSymbol, MarkSymbol}
-use Rattle.const_grammar.specs.Types.{punct, times, count, TyHead, WholeType, ArrayOpen, FieldsOpen, PackedOpen, ty_head, ty_rest, ty_rule, ty, run_ty_rest, run_ty_rule, run_ty}
+use Rattle.ir_symbols.specs.Marks.{punct}
+use Rattle.const_grammar.specs.Types.{times, count, TyHead, WholeType, ArrayOpen, FieldsOpen, PackedOpen, ty_head, ty_rest, ty_rule, ty, run_ty_rest, run_ty_rule, run_ty}
 use Rattle.const_grammar.proofs.Sides.{punct_apart}
 
 starts_ty_rule : (L : Lang Symbol TyShape) → Starts (heads ty_head) (ty_rule L)

@@ -6,7 +6,8 @@ use Rattle.ir_grammar.proofs.Recursion.{recursive_in}
 use Rattle.ir_tree.specs.Shape.{TyShape, integer, pointer, void, array, structure, named, TyShapes, no_types, types, ty_row}
 use Rattle.ir_words.specs.declared.words.Keyword.TheVariants.{Integer, Ptr, Void, X}
 use Rattle.ir_lex.specs.Symbols.{Symbol, KeywordSymbol, LocalSymbol, NumberSymbol, MarkSymbol}
-use Rattle.const_grammar.specs.Types.{punct, count, WholeType, ArrayOpen, FieldsOpen, PackedOpen, ty_head, ty_rule, ty}
+use Rattle.ir_symbols.specs.Marks.{punct}
+use Rattle.const_grammar.specs.Types.{count, WholeType, ArrayOpen, FieldsOpen, PackedOpen, ty_head, ty_rule, ty}
 use Rattle.const_grammar.specs.Spelling.{in_braces, ty_spelling, ty_list_spelling, ty_more_spelling, FitsTy, FitTys}
 use Rattle.ir_tree.proofs.Grows.{and_both}
 use Rattle.const_grammar.proofs.TypeLaw.{regular_ty}

@@ -11,7 +11,8 @@ use Rattle.ir_grammar.specs.Reader.{Reader, heads, run_empty, run_pick, run_one,
 use Rattle.ir_tree.specs.Shape.{TyShape, ConstShape, number, boolean, null, undef, poison, zero_value, text, elements, fields, global, address, TypedShape, typed, typed_row}
 use Rattle.ir_words.specs.declared.words.Keyword.TheVariants.{True, False, Null, Undef, Poison, ZeroInitializer, GetElementPtr, InBounds, Nuw}
 use Rattle.ir_lex.specs.Symbols.{Symbol, KeywordSymbol, GlobalSymbol, NumberSymbol, TextSymbol, MarkSymbol}
-use Rattle.const_grammar.specs.Types.{punct, ty, run_ty}
+use Rattle.ir_symbols.specs.Marks.{punct}
+use Rattle.const_grammar.specs.Types.{ty, run_ty}
 
 -- a flag of `getelementptr`: whether it is `inbounds`
 abbrev pub address_flag : Symbol → Option Bool

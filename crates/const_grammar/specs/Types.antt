@@ -4,14 +4,10 @@
 use Rattle.std.specs.Prelude.{ℕ, ◌^◌, ◌==◌, Bool, nat_lt, ◌&&◌, true, false, Option, None, Some, pos, if◌then◌else◌}
 use Rattle.ir_grammar.specs.Language.{Lang, Mark, mark, empty, pick, one, skip, seq, map_to, up_to, listed, recursive}
 use Rattle.ir_grammar.specs.Reader.{Reader, run_empty, run_pick, run_one, run_skip, run_seq, run_map, run_up_to, run_listed, run_recursive}
+use Rattle.ir_symbols.specs.Marks.{punct}
 use Rattle.ir_tree.specs.Shape.{TyShape, integer, pointer, void, array, structure, named, ty_row}
 use Rattle.ir_words.specs.declared.words.Keyword.TheVariants.{Integer, Ptr, Void, X}
 use Rattle.ir_lex.specs.Symbols.{Symbol, KeywordSymbol, LocalSymbol, NumberSymbol, MarkSymbol}
-
--- one of the marks `=`, `,`, `*`, `|` and the brackets, by its byte
-abbrev pub punct : ℕ → Symbol → Option Mark
-punct b (MarkSymbol c) = if b == c then Some mark else None
-punct b _ = None
 
 -- `x`
 abbrev pub times : Symbol → Option Mark
