@@ -1,0 +1,5 @@
+//! Types, read from tokens.
+#![tactic(auto)]
+
+mod heads;
+
