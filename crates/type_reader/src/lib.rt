@@ -2,4 +2,6 @@
 #![tactic(auto)]
 
 mod heads;
+mod types;
 
+pub use types::type_at;
