@@ -6,7 +6,7 @@ use Rattle.ir_tree.specs.Shape.{TyShape, ConstShape}
 use Rattle.ir_lex.specs.Symbols.{Symbol, MarkSymbol}
 use Rattle.ir_symbols.specs.Marks.{punct}
 use Rattle.const_grammar.specs.Types.{count, times, TyHead, WholeType, ArrayOpen, FieldsOpen, PackedOpen, ty_head, ty_rest, ty_rule, ty}
-use Rattle.const_grammar.specs.Constants.{address_flag, ConstHead, WholeConst, ElementsOpen, ValuesOpen, PackedValuesOpen, AddressOpen, const_head, typed_const, const_rest, const_rule, const}
+use Rattle.const_grammar.specs.Constants.{address_flags, ConstHead, WholeConst, ElementsOpen, ValuesOpen, PackedValuesOpen, AddressOpen, const_head, typed_const, const_rest, const_rule, const}
 use Rattle.const_grammar.proofs.Sides.{punct_is}
 use Rattle.const_grammar.proofs.Ends.{Ends, ends_skip, ends_seq, ends_map, ends_up_to, ends_listed, ends_until}
 use Rattle.const_grammar.proofs.DeepLaw.{closed_end}
@@ -69,7 +69,7 @@ const_last L s PackedValuesOpen e ts q c cut word =
     behind s q ts cut ((ends_skip (punct 123) (ends_map _ (ends_up_to (punct 62) _ (closing_end 62 refl)))).at q c word)
 const_last L s AddressOpen e ts q c cut word =
     behind s q ts cut
-    ((ends_map _ (ends_seq (many (one address_flag)) (ends_skip (punct 40) (ends_seq ty (ends_skip (punct 44) (ends_seq (typed_const L)
+    ((ends_map _ (ends_seq address_flags (ends_skip (punct 40) (ends_seq ty (ends_skip (punct 44) (ends_seq (typed_const L)
     (ends_until (punct 41) (skip (punct 44) (typed_const L)) (closing_end 41 refl)))))))).at q c word)
 
 pub ends_const : Ends closed_end const

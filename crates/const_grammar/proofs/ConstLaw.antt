@@ -12,7 +12,7 @@ use Rattle.ir_words.specs.declared.words.Keyword.TheVariants.{Null, Nuw}
 use Rattle.ir_lex.specs.Symbols.{Symbol, KeywordSymbol, MarkSymbol}
 use Rattle.ir_symbols.specs.Marks.{punct}
 use Rattle.const_grammar.specs.Types.{ty_head, ty}
-use Rattle.const_grammar.specs.Constants.{address_flag, ConstHead, WholeConst, ElementsOpen, ValuesOpen, PackedValuesOpen, AddressOpen, const_head, typed_const, typed_list, operands, const_rest, const_rule, const, run_typed_const, run_typed_list, run_operands, run_const_rest, run_const_rule, run_const}
+use Rattle.const_grammar.specs.Constants.{address_flag, address_flags, run_address_flags, ConstHead, WholeConst, ElementsOpen, ValuesOpen, PackedValuesOpen, AddressOpen, const_head, typed_const, typed_list, operands, const_rest, const_rule, const, run_typed_const, run_typed_list, run_operands, run_const_rest, run_const_rule, run_const}
 use Rattle.const_grammar.proofs.Sides.{punct_is, punct_apart}
 use Rattle.const_grammar.proofs.TypeLaw.{starts_ty, good_ty, good_closed_by}
 
@@ -40,7 +40,7 @@ regular_rest (WholeConst c) = regular_fixed (empty c)
 regular_rest ElementsOpen = regular_map _ (regular_list 93)
 regular_rest ValuesOpen = regular_map _ (regular_list 125)
 regular_rest PackedValuesOpen = regular_skip (punct 123) (regular_map _ (regular_up_to (punct 62) (regular_list 125)))
-regular_rest AddressOpen = regular_map _ (regular_seq (regular_fixed (many (one address_flag))) (regular_skip (punct 40) regular_operands))
+regular_rest AddressOpen = regular_map _ (regular_seq (regular_fixed address_flags) (regular_skip (punct 40) regular_operands))
 
 pub regular_const : Regular const_rule
 regular_const = regular_pick const_head regular_rest
@@ -54,10 +54,10 @@ good_list n r close e apart comma g =
     good_listed n (punct 44) (punct close) (MarkSymbol 44) mark (MarkSymbol close) mark never refl e starts_typed_const (punct_apart ty_head close apart)
     (punct_apart (punct 44) close comma) (λ t h. refl) (λ t h. refl) (good_typed n r g)
 
-good_flags : (n : ℕ) → Good n (many (one address_flag)) (run_many n (heads address_flag) (run_one address_flag)) (heads address_flag)
+good_flags : (n : ℕ) → Good n address_flags (run_address_flags n) (heads address_flag)
 good_flags n =
-    good_many n (starts_pick address_flag _) (λ t h. refl) (λ t h. refl) (λ t h. h)
-    (good_one n address_flag (KeywordSymbol Nuw) false never refl)
+    good_map _ (good_many n (starts_pick address_flag _) (λ t h. refl) (λ t h. refl) (λ t h. h)
+    (good_one n address_flag (KeywordSymbol Nuw) false never refl))
 
 good_operands : (n : ℕ) (r : Reader Symbol ConstShape) → Good n const r never → Good n (operands const) (run_operands n r) never
 good_operands n r g =

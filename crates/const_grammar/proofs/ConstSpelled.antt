@@ -8,7 +8,7 @@ use Rattle.ir_words.specs.declared.words.Keyword.TheVariants.{True, False, Null,
 use Rattle.ir_lex.specs.Symbols.{Symbol, KeywordSymbol, GlobalSymbol, NumberSymbol, TextSymbol, MarkSymbol}
 use Rattle.ir_symbols.specs.Marks.{punct}
 use Rattle.const_grammar.specs.Types.{ty}
-use Rattle.const_grammar.specs.Constants.{address_flag, WholeConst, ElementsOpen, ValuesOpen, PackedValuesOpen, AddressOpen, typed_const, typed_list, const_rule, const}
+use Rattle.const_grammar.specs.Constants.{address_flag, address_flags, WholeConst, ElementsOpen, ValuesOpen, PackedValuesOpen, AddressOpen, typed_const, typed_list, const_rule, const}
 use Rattle.const_grammar.specs.Spelling.{in_braces, ty_spelling, flag_spelling, const_spelling, typed_spelling, typed_list_spelling, typed_more_spelling, FitsConst, FitsTyped, FitTyped}
 use Rattle.const_grammar.proofs.ConstLaw.{regular_const}
 use Rattle.const_grammar.proofs.TypeSpelled.{closed, spelled_ty}
@@ -57,13 +57,9 @@ abbrev flags_of : Bool → List Bool
 flags_of true = true ∷ []
 flags_of false = []
 
-flags_spelled : (inbounds : Bool) → many (one address_flag) (flag_spelling inbounds) (flags_of inbounds)
-flags_spelled true = (KeywordSymbol InBounds ∷ [], [], refl, (KeywordSymbol InBounds, [], true, refl, refl, (refl, refl)), refl)
-flags_spelled false = refl
-
-flags_any : (inbounds : Bool) → inbounds ≡ list_any (λ b. b) (flags_of inbounds)
-flags_any true = refl
-flags_any false = refl
+flags_spelled : (inbounds : Bool) → address_flags (flag_spelling inbounds) inbounds
+flags_spelled true = (flags_of true, (KeywordSymbol InBounds ∷ [], [], refl, (KeywordSymbol InBounds, [], true, refl, refl, (refl, refl)), refl), refl)
+flags_spelled false = (flags_of false, refl, refl)
 
 whole : (t : Symbol) (c : ConstShape) → const_rule const (t ∷ []) c → const (t ∷ []) c
 whole t c word = word_of_rule (t ∷ []) c word
@@ -83,7 +79,7 @@ spelled_address inbounds t base row ty_word base_word row_word =
       refl,
       refl,
       (
-        (flags_of inbounds, (t, (base, row_values row))),
+        (inbounds, (t, (base, row_values row))),
         (
           flag_spelling inbounds,
           MarkSymbol 40 ∷ all,
@@ -117,12 +113,9 @@ spelled_address inbounds t base row ty_word base_word row_word =
             ),
           ),
         ),
-        address_same inbounds t base row,
+        ap (address inbounds t base) (row_same row),
       ),
     )
-  where
-    address_same : (b : Bool) (t : TyShape) (base : TypedShape) (row : TypedShapes) → address b t base row ≡ address (list_any (λ x. x) (flags_of b)) t base (typed_row (row_values row))
-    address_same b t base row = ap (λ z. address z t base row) (flags_any b) ∙ ap (address (list_any (λ x. x) (flags_of b)) t base) (row_same row)
 
 mutual
   unfolding const_spelling typed_spelling typed_list_spelling typed_more_spelling FitsConst FitsTyped FitTyped

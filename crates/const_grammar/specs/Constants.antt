@@ -61,9 +61,13 @@ Operands = TyShape × (TypedShape × List TypedShape)
 abbrev pub operands : Lang Symbol ConstShape → Lang Symbol Operands
 operands const = seq ty (skip (punct 44) (seq (typed_const const) (until (punct 41) (skip (punct 44) (typed_const const)))))
 
+-- { "inbounds"|"nuw" }: whether one of them is `inbounds`
+abbrev pub address_flags : Lang Symbol Bool
+address_flags = map_to (list_any (λ b. b)) (many (one address_flag))
+
 -- the address with these flags and operands
-abbrev pub address_of : List Bool × Operands → ConstShape
-address_of v = address (list_any (λ b. b) v.0) v.1.0 v.1.1.0 (typed_row v.1.1.1)
+abbrev pub address_of : Bool × Operands → ConstShape
+address_of v = address v.0 v.1.0 v.1.1.0 (typed_row v.1.1.1)
 
 -- what follows the first symbol, by the lines of the rule
 abbrev pub const_rest : Lang Symbol ConstShape → ConstHead → Lang Symbol ConstShape
@@ -71,7 +75,7 @@ const_rest const (WholeConst c) = empty c
 const_rest const ElementsOpen = map_to (λ v. elements (typed_row v)) (typed_list 93 const)
 const_rest const ValuesOpen = map_to (λ v. fields (typed_row v) false) (typed_list 125 const)
 const_rest const PackedValuesOpen = skip (punct 123) (map_to (λ v. fields (typed_row v) true) (up_to (punct 62) (typed_list 125 const)))
-const_rest const AddressOpen = map_to address_of (seq (many (one address_flag)) (skip (punct 40) (operands const)))
+const_rest const AddressOpen = map_to address_of (seq address_flags (skip (punct 40) (operands const)))
 
 -- the rule, with a language in the place of each inner use
 abbrev pub const_rule : Lang Symbol ConstShape → Lang Symbol ConstShape
@@ -91,12 +95,15 @@ run_typed_list n close r = run_listed n (punct 44) (punct close) (run_typed_cons
 abbrev pub run_operands : ℕ → Reader Symbol ConstShape → Reader Symbol Operands
 run_operands n r = run_seq (run_ty n) (run_skip (punct 44) (run_seq (run_typed_const n r) (run_until n (punct 41) (run_skip (punct 44) (run_typed_const n r)))))
 
+abbrev pub run_address_flags : ℕ → Reader Symbol Bool
+run_address_flags n = run_map (list_any (λ b. b)) (run_many n (heads address_flag) (run_one address_flag))
+
 abbrev pub run_const_rest : ℕ → Reader Symbol ConstShape → ConstHead → Reader Symbol ConstShape
 run_const_rest n r (WholeConst c) = run_empty c
 run_const_rest n r ElementsOpen = run_map (λ v. elements (typed_row v)) (run_typed_list n 93 r)
 run_const_rest n r ValuesOpen = run_map (λ v. fields (typed_row v) false) (run_typed_list n 125 r)
 run_const_rest n r PackedValuesOpen = run_skip (punct 123) (run_map (λ v. fields (typed_row v) true) (run_up_to (punct 62) (run_typed_list n 125 r)))
-run_const_rest n r AddressOpen = run_map address_of (run_seq (run_many n (heads address_flag) (run_one address_flag)) (run_skip (punct 40) (run_operands n r)))
+run_const_rest n r AddressOpen = run_map address_of (run_seq (run_address_flags n) (run_skip (punct 40) (run_operands n r)))
 
 abbrev pub run_const_rule : ℕ → Reader Symbol ConstShape → Reader Symbol ConstShape
 run_const_rule n r = run_pick const_head (run_const_rest n r)
