@@ -4,13 +4,15 @@ use Rattle.std.proofs.lemmas.List.{map-append, length-append}
 use Rattle.std.specs.List.{list_all}
 use Rattle.ir_grammar.specs.Language.{Mark}
 use Rattle.ir_grammar.specs.Code.{Stops}
-use Rattle.ir_grammar.specs.Reader.{Out, Got, Wrong, Reader, heads, opens, run_one, run_items, run_listed}
+use Rattle.ir_grammar.specs.Reader.{Out, Got, Wrong, Reader, heads, opens, run_one, run_items, run_listed, run_skip, run_until}
 use Rattle.ir_grammar.specs.declared.Stop.{Stop}
-use Rattle.ir_grammar.proofs.Loops.{ItemsLeft, items_start, items_go_on, items_stop_in_item, items_stop_after_item, items_close, items_run_out}
+use Rattle.ir_grammar.proofs.Loops.{UntilLeft, until_start, until_go_on, ItemsLeft, items_start, items_go_on, items_stop_in_item, items_stop_after_item, items_close, items_run_out}
 use Rattle.ir_tree.specs.NameTable.{Grows}
-use Rattle.ir_tree.specs.ShapeOf.{ty_shape}
-use Rattle.ir_tree.specs.Known.{ty_known}
+use Rattle.ir_tree.specs.ShapeOf.{ty_shape, typed_shape}
+use Rattle.ir_tree.specs.Known.{ty_known, typed_known}
 use Rattle.ir_tree.specs.declared.types.Ty.{Ty}
+use Rattle.ir_grammar.specs.declared.Stop.TheVariants.{WrongSymbol, OutOfMemory}
+use Rattle.ir_tree.proofs.GrowsConst.{typed_shape-append, typed_known-more}
 use Rattle.ir_tree.proofs.Table.{grows_same, grows_on}
 use Rattle.ir_tree.proofs.Grows.{and_both, map_where, list_all-weaker, ty_shape-append, ty_known-more}
 
@@ -106,3 +108,55 @@ pub named_close : {A V S K C : Type 0} {shape : List (List ℕ) → A → V} {kn
     → whole ≡ Got (map (shape new) (front ++ x ∷ [])) (drop last ss)
 named_close {shape = shape} {front = front} {ss = ss} keeps m g e {new = new} grows x past read last k closed =
     items_close m g.left e past (shape new x) read last k closed ∙ ap (λ z. Got z (drop last ss)) (shapes_more keeps grows front g.all_known x)
+
+pub typed_keep : Keeps typed_shape typed_known
+typed_keep = record { same = typed_shape-append; stays = typed_known-more }
+
+-- the invariant of a loop over items up to a closing symbol, each behind a separator
+pub record NamedUntil {A V S C : Type 0} (shape : List (List ℕ) → A → V) (known : ℕ → A → Bool) (n : ℕ) (close : S → Option C)
+    (item : Reader S V) (whole : Out S (List V)) (old names : List (List ℕ)) (front : List A) (ss : List S) (at next : ℕ) : Type 0 where
+  pub left : UntilLeft n close item whole (map (shape names) front) ss next
+  pub grows : Grows old names
+  pub count : length names + at ≤ length old + next
+  pub all_known : list_all (known (length names)) front ≡ true
+
+pub until_named_start : {A V S C : Type 0} (shape : List (List ℕ) → A → V) (known : ℕ → A → Bool) (n : ℕ) (close : S → Option C)
+    (item : Reader S V) (names : List (List ℕ)) (ss : List S) (at : ℕ) → at ≤ length ss
+    → NamedUntil shape known n close item (run_until n close item (drop at ss)) names names [] ss at at
+until_named_start shape known n close item names ss at le = record {
+  left = until_start n close item ss at le;
+  grows = grows_same names;
+  count = omega arith;
+  all_known = refl;
+}
+
+-- a separator and an item were read
+pub until_named_go_on : {A V S K C : Type 0} {shape : List (List ℕ) → A → V} {known : ℕ → A → Bool} {n : ℕ} {close : S → Option C}
+    (separator : S → Option K) (item : Reader S V) {whole : Out S (List V)} {old names : List (List ℕ)} {front : List A} {ss : List S} {at next : ℕ}
+    → Keeps shape known → (m : ℕ) → NamedUntil shape known n close (run_skip separator item) whole old names front ss at next → n ≡ suc m
+    → opens (heads close) (drop next ss) ≡ false → (past : ℕ) (k : K) → run_one separator (drop next ss) ≡ Got k (drop past ss) → next ≤ past
+    → {new : List (List ℕ)} → Grows names new → (x : A) → known (length new) x ≡ true → (last : ℕ) → length new + past ≤ length names + last
+    → item (drop past ss) ≡ Got (shape new x) (drop last ss) → last ≤ length ss
+    → NamedUntil shape known m close (run_skip separator item) whole old new (front ++ x ∷ []) ss at last
+until_named_go_on {shape = shape} {known = known} {close = close} separator item {whole = whole} {front = front} {ss = ss} {next = next} keeps m g e apart past k comma after {new = new} grows x fits last count read le = record {
+  left = subst (λ z. UntilLeft m close (run_skip separator item) whole z ss last) (shapes_more keeps grows front g.all_known x)
+      (until_go_on m g.left e apart last (shape new x) (skip_got separator item (drop next ss) (drop past ss) (drop last ss) k (shape new x) comma read) le);
+  grows = grows_on g.grows grows;
+  count = omega (arith, g.count);
+  all_known = known_more keeps grows front g.all_known x fits;
+}
+  where
+    skip_got : {S K V : Type 0} (separator : S → Option K) (item : Reader S V) (ts q rest : List S) (k : K) (v : V) → run_one separator ts ≡ Got k q → item q ≡ Got v rest
+        → run_skip separator item ts ≡ Got v rest
+    skip_got separator item ts q rest k v e f = rw (e, f) refl
+
+-- no separator stands there
+pub skip_stops : {S V : Type 0} (separator : S → Option Mark) (item : Reader S V) (ss ts : List S) (e : Stop) → Stops ss e (run_one separator ts) → Stops ss e (run_skip separator item ts)
+skip_stops separator item ss ts (WrongSymbol k) h = (let same = h.0 in rw same refl, h.1)
+skip_stops separator item ss ts OutOfMemory h = tt
+
+-- the item behind it stops
+pub skip_stops_in_item : {S K V : Type 0} (separator : S → Option K) (item : Reader S V) (ss ts q : List S) (k : K) → run_one separator ts ≡ Got k q
+    → (e : Stop) → Stops ss e (item q) → Stops ss e (run_skip separator item ts)
+skip_stops_in_item separator item ss ts q k f (WrongSymbol j) h = (let same = h.0 in rw (f, same) refl, h.1)
+skip_stops_in_item separator item ss ts q k f OutOfMemory h = tt

@@ -4,4 +4,5 @@
 mod heads;
 mod types;
 
+pub use heads::name_number;
 pub use types::type_at;
