@@ -1,0 +1,12 @@
+pub mod Sides
+pub mod TypeLaw
+pub mod ConstLaw
+pub mod Depths
+pub mod Ends
+pub mod DeepLaw
+pub mod ClosedEnds
+pub mod Values
+pub mod TypeFits
+pub mod ConstFits
+pub mod TypeSpelled
+pub mod ConstSpelled

@@ -1,0 +1,5 @@
+pub mod Types
+pub mod Constants
+pub mod Spelling
+pub mod Depth
+pub mod Counting

@@ -1,0 +1,7 @@
+//! Constants, read from tokens.
+#![tactic(auto)]
+
+mod constants;
+mod heads;
+
+pub use constants::{const_at, typed_at};
