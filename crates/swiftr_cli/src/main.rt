@@ -1,4 +1,5 @@
-//! The command `swiftr`: compiles a text into an executable that survives a flipped register bit.
+//! The command `swiftr`: compiles a text into an executable that survives a flipped register bit, runs
+//! executables with one flip or with none, and lists their words.
 #![tactic(auto)]
 
 mod compile;
