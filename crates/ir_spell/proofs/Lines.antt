@@ -1,9 +1,8 @@
 -- Rows of symbols on lines are the tokens of their text.
-use Rattle.std.proofs.Common.{◌≡◌, ℕ, ◌==◌, Bool, true, false, List, [], ◌∷◌, ◌++◌, refl, sym, ap, ◌∙◌, subst, append_assoc, append-nil}
-use Rattle.ir_words.specs.Digits.{Passes}
+use Rattle.std.proofs.Common.{◌≡◌, ℕ, List, [], ◌∷◌, ◌++◌, refl, sym, ap, ◌∙◌, subst, append_assoc, append-nil}
 use Rattle.ir_lex.specs.Bytes.{is_blank}
 use Rattle.ir_lex.specs.Symbols.{Symbol}
-use Rattle.ir_spell.specs.Printed.{text_of_symbol, touches, ArePrintable, between, joined, joined_behind, Spaced, laid_out, symbols_in, AreBlanks, AreApart, AreApartBehind, Line, text_of_lines, rows_of, AreIndented}
+use Rattle.ir_spell.specs.Printed.{text_of_symbol, ArePrintable, joined, joined_behind, Spaced, laid_out, symbols_in, AreBlanks, AreApart, AreApartBehind, Line, text_of_lines, rows_of, AreIndented}
 use Rattle.ir_spell.specs.Spells.{Spells}
 use Rattle.ir_spell.proofs.Walks.{laid_out_spells, spaced_behind, spaced_behind-joined, spaced_behind-symbols, spaced_behind-apart}
 

@@ -1,5 +1,5 @@
 -- The bytes of a text up to the first one that doesn't pass a test.
-use Rattle.std.proofs.Common.{◌≡◌, ℕ, ◌+◌, Bool, true, false, List, [], ◌∷◌, ◌++◌, length, refl, ap, arith}
+use Rattle.std.proofs.Common.{◌≡◌, ℕ, Bool, true, false, List, [], ◌∷◌, ◌++◌, length, refl, ap, arith}
 use Rattle.std.specs.List.{prefix_len}
 use Rattle.ir_words.specs.Digits.{Passes, Stops}
 
