@@ -1,7 +1,5 @@
-mod Padding
 mod Literals
 mod JobLaws
 mod Complete
-mod PointsText
 mod Delivered
 mod ExitSurvives

@@ -1,11 +1,11 @@
 -- What each form of words gives, by the files that the store tells, and why it gives nothing.
 use Rattle.std.specs.Prelude.{◌≡◌, ◌⊎◌, ◌<◌, ◌≤◌, ℕ, ℤ, List, [], length, codes, Option, Some, None}
 use Rattle.sr_base.specs.Files.{Files, held, Holds}
+use Rattle.point_list.specs.Points.{points_text}
+use Rattle.point_list.specs.declared.list.Point.{Point}
 use Rattle.swiftr_cli.specs.Words.{Form, compile}
 use Rattle.swiftr_cli.specs.FirstForm.{Returns, exit_status}
-use Rattle.swiftr_cli.specs.Points.{points_text}
 use Rattle.swiftr_cli.specs.Hardened.{IsHardened}
-use Rattle.swiftr_cli.specs.declared.points.Point.{Point}
 
 -- what a command gives where nothing fails: an executable, what is put on `out`, and the line on `note`
 pub record Yield : Type 0 where
