@@ -5,3 +5,4 @@ mod MarkLemmas
 mod WalkLemmas
 mod WindowLaws
 mod PointsLaws
+pub mod SortedLists

@@ -1,7 +1,8 @@
 -- The executable that ends with a status survives every flip outside its points.
-use Rattle.std.proofs.Common.{◌≡◌, ◌<◌, ◌+◌, ◌*◌, ◌%◌, ◌^◌, ℕ, pos, List, [], ◌∷◌, length, Option, Some, refl, sym, subst, arith, All}
-use Rattle.std.proofs.lemmas.List.Elements.{All-cons, All-nil}
+use Rattle.std.proofs.Common.{zero, suc, inl, inr, ◌≡◌, ◌<◌, ◌+◌, ◌*◌, ◌%◌, ◌^◌, ℕ, pos, List, [], ◌∷◌, length, Option, Some, refl, sym, subst, arith, All}
+use Rattle.std.proofs.lemmas.List.Elements.{All-cons, All-nil, All-contains, All-from_recursion}
 use Rattle.std.specs.List.{AllByRecursion}
+use Rattle.std.specs.Prelude.{Contains, ◌↔◌}
 use Rattle.elf_file.specs.Image.{words_of}
 use Rattle.elf_file.specs.Layout.{text_bytes}
 use Rattle.elf_file.specs.ReadBack.{written_image}
@@ -13,9 +14,11 @@ use Rattle.rv_model.specs.Text.{WordsOf, text_base}
 use Rattle.rv_flips.specs.Ending.{ending_words}
 use Rattle.rv_flips.specs.Survives.{Survives}
 use Rattle.rv_flips.proofs.EndingLaws.{ending_survives, ending_windows}
-use Rattle.swiftr_cli.specs.declared.points.Point.{Point}
+use Rattle.point_list.specs.declared.list.Point.{Point}
+use Rattle.point_list.specs.Points.{IsPoint, AreSorted}
+use Rattle.point_list.proofs.SortedLists.{sorted_same}
 use Rattle.swiftr_cli.specs.Program.{exit_words, executable}
-use Rattle.swiftr_cli.specs.Points.{exit_points, IsPoint}
+use Rattle.swiftr_cli.specs.Points.{exit_points}
 use Rattle.swiftr_cli.specs.Hardened.{IsHardened, pairs}
 
 -- the words are those that end a program with the status
@@ -84,3 +87,22 @@ exit_is_hardened status h =
       windows = subst Q (sym (words_back status h)) (exit_windows status h);
       within = within;
     }
+
+-- the points of the list are sorted, and those of them that are window points are all
+exit_sorted : AreSorted exit_points
+exit_sorted zero zero d h k = absurd (omega arith)
+exit_sorted zero (suc zero) d h k = inl (omega arith)
+exit_sorted zero (suc (suc zero)) d h k = inl (omega arith)
+exit_sorted zero (suc (suc (suc j))) d h k = absurd (omega arith)
+exit_sorted (suc zero) zero d h k = absurd (omega arith)
+exit_sorted (suc zero) (suc zero) d h k = absurd (omega arith)
+exit_sorted (suc zero) (suc (suc zero)) d h k = inr (refl, omega arith)
+exit_sorted (suc zero) (suc (suc (suc j))) d h k = absurd (omega arith)
+exit_sorted (suc (suc i)) j d h k = absurd (omega arith)
+
+pub exit_listed : (status : ℕ) (points : List Point) → status < 256 → AreSorted points →
+    ((p : Point) → Contains points p ↔ (Contains exit_points p × IsWindowPoint (exit_words status) text_base p.pc p.reg)) → points ≡ exit_points
+exit_listed status points h sorted exact =
+    let window = λ (p : Point). IsWindowPoint (exit_words status) text_base p.pc p.reg in
+    sorted_same points exit_points sorted exit_sorted (λ p c. ((exact p).0 c).0)
+    (λ p c. (exact p).1 (c, All-contains window exit_points p (All-from_recursion window exit_points (exit_windows status h)) c))

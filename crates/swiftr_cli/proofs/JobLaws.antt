@@ -4,7 +4,8 @@ use Rattle.sr_base.specs.Meanings.{StoreMeaning}
 use Rattle.swiftr_cli.specs.Words.{compile}
 use Rattle.swiftr_cli.specs.FirstForm.{Returns, exit_status}
 use Rattle.swiftr_cli.specs.Program.{executable}
-use Rattle.swiftr_cli.specs.Points.{points_text, exit_points}
+use Rattle.point_list.specs.Points.{points_text}
+use Rattle.swiftr_cli.specs.Points.{exit_points}
 use Rattle.swiftr_cli.specs.Hardened.{IsHardened}
 use Rattle.swiftr_cli.proofs.Literals.{nine_digits_fit}
 use Rattle.swiftr_cli.proofs.ExitSurvives.{exit_is_hardened}

@@ -1,10 +1,8 @@
-mod Padding
 mod Literals
 mod JobLaws
 mod LoadLaws
 mod Hexadecimals
 mod Numbers
 mod Complete
-mod PointsText
 mod Delivered
 mod ExitSurvives

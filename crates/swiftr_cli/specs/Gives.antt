@@ -1,14 +1,14 @@
 -- What each form of words gives, by the files that the store tells, and why it gives nothing.
 use Rattle.std.specs.Prelude.{◌≡◌, ◌⊎◌, ◌<◌, ◌≤◌, ℕ, ℤ, List, [], length, codes, Option, Some, None, IsSome}
 use Rattle.sr_base.specs.Files.{Files, held, Holds}
+use Rattle.point_list.specs.Points.{points_text}
+use Rattle.point_list.specs.declared.list.Point.{Point}
 use Rattle.swiftr_cli.specs.Words.{Form, compile, execute, disasm}
 use Rattle.swiftr_cli.specs.FirstForm.{Returns, exit_status}
-use Rattle.swiftr_cli.specs.Points.{points_text}
 use Rattle.swiftr_cli.specs.Hardened.{IsHardened}
 use Rattle.swiftr_cli.specs.Loads.{RefusesLoad, LacksLoad}
 use Rattle.swiftr_cli.specs.Runs.{Runs}
 use Rattle.swiftr_cli.specs.Disasm.{Disassembles}
-use Rattle.swiftr_cli.specs.declared.points.Point.{Point}
 use Rattle.swiftr_cli.specs.declared.status.Status.{Status}
 use Rattle.swiftr_cli.specs.declared.status.Status.TheVariants.{Done}
 pub use Rattle.swiftr_cli.specs.Yield.{Yield}

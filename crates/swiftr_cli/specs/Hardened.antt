@@ -5,8 +5,8 @@ use Rattle.elf_file.specs.Image.{ProgramImage, ImageSegment, text_segment, words
 use Rattle.elf_file.specs.Reading.{reading_of}
 use Rattle.rv_inst.specs.Window.{IsWindowPoint}
 use Rattle.rv_flips.specs.Survives.{Survives}
-use Rattle.swiftr_cli.specs.Points.{IsPoint}
-use Rattle.swiftr_cli.specs.declared.points.Point.{Point}
+use Rattle.point_list.specs.Points.{IsPoint}
+use Rattle.point_list.specs.declared.list.Point.{Point}
 
 -- the points as pairs of an address and a register
 abbrev pub pairs : List Point → List (ℕ × ℕ)

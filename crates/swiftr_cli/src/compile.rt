@@ -2,16 +2,19 @@
 
 ghost use Rattle.std.specs.Prelude.{◌≡◌, ◌≤◌, length, IfOk, IfErr, MatchResult};
 ghost use Rattle.sr_base.specs.Meanings.{StoreMeaning};
+ghost use Rattle.point_list.specs.Points.{points_text};
 ghost use Rattle.swiftr_cli.specs.Words.{Form, compile as compile_form};
 ghost use Rattle.swiftr_cli.specs.Program.{executable};
+ghost use Rattle.swiftr_cli.specs.Points.{exit_points};
 ghost use Rattle.swiftr_cli.specs.Gives.{most_text};
 ghost use Rattle.swiftr_cli.specs.Jobs.{IsJobOf, StopsEarly, IsOnlyRead, IsReadAs, StopsReading, IsBuilt, IsRefusal};
 
 use crate::first_form::{exit_status, returned_number};
 use crate::job::{Job, Output};
-use crate::points::{exit_points, points_text};
+use crate::points::exit_points;
 use crate::program::exit_words;
 use crate::status::Status;
+use point_list::{points, points_text};
 use sr_base::{Store, StoreError};
 use std::alloc::{AllocError, Global};
 
@@ -33,11 +36,16 @@ fn read_text<S: Store>(alloc: Global, name: &str, store: &mut S) -> Result<Optio
     }
 }
 
-/// The executable that ends with a status.
-fn executable(alloc: Global, status: u8) -> Result<Vec<u8>, AllocError>
-    ensures { IfOk result (λ file. file.items ≡ executable status) }
+/// The executable that ends with a status, and the text of its points.
+fn executable(alloc: Global, status: u8) -> Result<(Vec<u8>, Vec<u8>), AllocError>
+    ensures file { IfOk result (λ made. made.0.items ≡ executable status) }
+    ensures points { IfOk result (λ made. made.1.items ≡ points_text exit_points) }
 {
-    elf_file::write(alloc, &exit_words(status), &[], 0)
+    let words = exit_words(status);
+    let bytes = elf_file::write(alloc, &words, &[], 0)?;
+    let points = points(alloc, &words, 0x10000, &exit_points())?;
+    let text = points_text(alloc, &points)?;
+    Ok((bytes, text))
 }
 
 /// The job that tells that a file is refused, by a kind.
@@ -60,12 +68,11 @@ fn build<'a>(alloc: Global, text: &[u8], output: &'a str) -> Result<Job<'a>, Sta
     let Some(number) = returned_number(text) else {
         return refusal(alloc, b"NotBuilt");
     };
-    let bytes = executable(alloc, exit_status(number))?;
+    let (bytes, text) = executable(alloc, exit_status(number))?;
     let output = Some(Output {
         name: output,
         bytes,
     });
-    let text = points_text(alloc, &exit_points())?;
     let line = Vec::new(alloc);
     Ok(Job::Whole { output, text, line })
 }

@@ -8,5 +8,5 @@ returns-in_default-clause-ok c = not_built c.refusal.result c.args.text.now c.ar
 pub returns-clause-ok : goal.returns-clause-ok
 returns-clause-ok c =
     let returns = c.in-Some.ensures.found in
-    let bytes = rw (c.exit_status.ensures, returned_kept c.args.text.now c.in-Some.number returns) at c.in_ok-bytes.ensures in
-    (refl, gives_executable c.args.text.now c.in-Some.number c.in_ok-bytes.bytes.items c.in_ok-text.text.items c.new-line.result.items c.requires returns bytes (rw c.exit_points.ensures at c.in_ok-text.ensures) c.new-line.ensures.items)
+    let bytes = rw (c.exit_status.ensures, returned_kept c.args.text.now c.in-Some.number returns) at c.in_ok-bytes.ensures.file in
+    (refl, gives_executable c.args.text.now c.in-Some.number c.in_ok-bytes.bytes.items c.in_ok-bytes.text.items c.new-line.result.items c.requires returns bytes c.in_ok-bytes.ensures.points c.new-line.ensures.items)
