@@ -49,6 +49,6 @@ sorted_same (p ∷ ps) [] up vp there back = absurd (nothing_in p (there p (cont
 sorted_same (p ∷ ps) (q ∷ qs) up vp there back =
     let same = same_head p q ps qs up vp (contains_cases q qs p (there p (contains_head p ps))) (contains_cases p ps q (back q (contains_head q qs))) in
     let rest = sorted_same ps qs (sorted_tail p ps up) (sorted_tail q qs vp)
-        (λ x c. in_tail p q ps qs up same x c (contains_cases q qs x (there x (contains_tail p ps x c))))
-        (λ x c. in_tail q p qs ps vp (sym same) x c (contains_cases p ps x (back x (contains_tail q qs x c)))) in
+    (λ x c. in_tail p q ps qs up same x c (contains_cases q qs x (there x (contains_tail p ps x c))))
+    (λ x c. in_tail q p qs ps vp (sym same) x c (contains_cases p ps x (back x (contains_tail q qs x c)))) in
     ap (λ (y : Point). y ∷ ps) same ∙ ap (λ (ys : List Point). q ∷ ys) rest
