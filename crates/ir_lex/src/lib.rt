@@ -13,6 +13,7 @@ mod scan;
 mod symbols;
 mod token;
 
+pub use bytes::is_name_byte;
 pub use error::LexError;
 pub use ir_words::{Keyword, keyword_of};
 pub use laws::{at_most_one_token_list, tokens_lie_in_order};
