@@ -1,3 +1,4 @@
 pub mod Texts
 pub mod Flags
 pub mod Steps
+pub mod Parts

@@ -77,7 +77,7 @@ fn rest_at(
     ensures known { IfOk result (λ x. const_known (length names.new) x.0 ≡ true) }
     ensures reads { Gives (const_shape names.new) (symbols_of text.now toks.now) result
         (run_const_rest budget (run_const budget) (head_from text.now head)
-            (drop at (symbols_of text.now toks.now))) }
+        (drop at (symbols_of text.now toks.now))) }
 {
     match head {
         Head::Number(number) => Ok((Const::Int(number), at)),
@@ -216,7 +216,7 @@ fn indices_at(
     ensures known { IfOk result (λ x. list_all (typed_known (length names.new)) x.0.items ≡ true) }
     ensures reads { Gives (λ v. map (typed_shape names.new) v.items) (symbols_of text.now toks.now) result
         (run_until budget (punct 41) (run_skip (punct 44) (run_typed_const budget (run_const budget)))
-            (drop at (symbols_of text.now toks.now))) }
+        (drop at (symbols_of text.now toks.now))) }
 {
     let mut indices = Vec::new(alloc);
     let mut next = at;

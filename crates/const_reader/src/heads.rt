@@ -72,9 +72,9 @@ fn flag_at(text: &[u8], toks: &[Token], at: usize) -> Option<bool>
     requires { at ≤ length (symbols_of text.now toks.now) }
     ensures { MatchOption result (opens (heads address_flag) (drop at (symbols_of text.now toks.now)) ≡ false)
         (λ b. (opens (heads address_flag) (drop at (symbols_of text.now toks.now)) ≡ true)
-            × (run_one address_flag (drop at (symbols_of text.now toks.now))
-                ≡ Got b (drop (at + 1) (symbols_of text.now toks.now)))
-            × (at + 1 ≤ length (symbols_of text.now toks.now))) }
+        × (run_one address_flag (drop at (symbols_of text.now toks.now))
+        ≡ Got b (drop (at + 1) (symbols_of text.now toks.now)))
+        × (at + 1 ≤ length (symbols_of text.now toks.now))) }
 {
     match meaning_at(text, toks, at) {
         Some(Meaning::Keyword(Keyword::InBounds)) => Some(true),

@@ -11,9 +11,9 @@ pub loop-preserved : goal.loop-preserved
 loop-preserved c =
     let left : c.args.budget - c.loop.counter ≡ suc (c.args.budget - (c.loop.counter + 1)) = omega arith in
     let step : (c.loop.inbounds || c.in-Some.flag) ≡ c.if-inbounds.inbounds = elim c.if-inbounds.branch [
-        | then-inbounds w ↦ rw (w.if-inbounds.true) (sym (w.inbounds-is ∙ w.if-inbounds.true))
-        | else-inbounds w ↦ rw (w.if-inbounds.false) (sym w.inbounds-is)
-      ] in (
+      | then-inbounds w ↦ rw (w.if-inbounds.true) (sym (w.inbounds-is ∙ w.if-inbounds.true))
+      | else-inbounds w ↦ rw (w.if-inbounds.false) (sym w.inbounds-is)
+    ] in (
       c.loop.invariant.0 ∙ ap (λ z. flags_with c.loop.inbounds z (drop c.loop.next (symbols_of c.args.text.now c.args.toks.now))) left
           ∙ flags_more c.loop.inbounds c.in-Some.flag (c.args.budget - (c.loop.counter + 1)) _ _ c.in-Some.ensures.0 c.in-Some.ensures.1
           ∙ ap (λ z. flags_with z (c.args.budget - (c.loop.counter + 1)) (drop (c.loop.next + 1) (symbols_of c.args.text.now c.args.toks.now))) step,

@@ -1,0 +1,30 @@
+-- Where tokens stand, and which error says that a reader stopped.
+use Rattle.std.specs.Prelude.{ℕ, ◌+◌, ◌-◌, ◌==◌, Bool, List, [], ◌∷◌, length, drop, Option, None, Some, if◌then◌else◌}
+use Rattle.ir_grammar.specs.declared.Stop.{Stop}
+use Rattle.ir_grammar.specs.declared.Stop.TheVariants as stop
+use Rattle.ir_lex.specs.declared.token.Token.{Token}
+use Rattle.ir_const.specs.declared.error.ReadError.{ReadError}
+use Rattle.ir_const.specs.declared.error.ReadError.TheVariants as error
+
+-- the start of the first of these tokens, or the size of the text where there is none
+abbrev pub first_start : ℕ → List Token → ℕ
+first_start size [] = size
+first_start size (t ∷ toks) = t.start
+
+-- the offset of the token of that number, or the length of the text behind the last one
+abbrev pub place_of : List ℕ → List Token → ℕ → ℕ
+place_of text toks k = first_start (length text) (drop k toks)
+
+-- the error where the reader stopped at the token numbered k: behind the bracket where the list was cut, or else at a wrong token
+abbrev pub stopped_at : List ℕ → List Token → Option ℕ → ℕ → ReadError
+stopped_at text toks None k = error.Syntax (place_of text toks k)
+stopped_at text toks (Some end) k = if end == k then error.Deep (place_of text toks (k - 1)) else error.Syntax (place_of text toks k)
+
+abbrev pub error_of : List ℕ → List Token → Option ℕ → Stop → ReadError
+error_of text toks cut (stop.WrongSymbol k) = stopped_at text toks cut k
+error_of text toks cut stop.OutOfMemory = error.OutOfMemory
+
+-- the number of the token behind the bracket, from the count of symbols up to and with it, which are counted from that number
+abbrev pub cut_of : ℕ → Option ℕ → Option ℕ
+cut_of from None = None
+cut_of from (Some count) = Some (from + count)
