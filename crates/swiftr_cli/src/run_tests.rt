@@ -10,7 +10,41 @@ use std::test::Fail;
 /// addi x10,x0,7; addi x17,x0,93; ecall
 const SEVEN: [u32; 3] = [0x0070_0513, 0x05d0_0893, 0x0000_0073];
 
-/// The same, as GNU objdump lists them.
+/// Reads 100 bytes at a time to the data and writes them out, until none is left, and ends with 0:
+/// lui x11,0x10000; addi x10,x0,0; addi x12,x0,100; addi x17,x0,63; ecall; beq x10,x0,24; addi x12,x10,0;
+/// addi x10,x0,1; addi x17,x0,64; ecall; jal x0,-36; addi x10,x0,0; addi x17,x0,93; ecall
+const ECHO: [u32; 14] = [
+    0x1000_05b7,
+    0x0000_0513,
+    0x0640_0613,
+    0x03f0_0893,
+    0x0000_0073,
+    0x0005_0c63,
+    0x0005_0613,
+    0x0010_0513,
+    0x0400_0893,
+    0x0000_0073,
+    0xfddf_f06f,
+    0x0000_0513,
+    0x05d0_0893,
+    0x0000_0073,
+];
+
+/// Writes fourteen bytes of data out, and then has no instruction: lui x11,0x10000; addi x10,x0,1;
+/// addi x12,x0,14; addi x17,x0,64; ecall; ebreak
+const WRITE: [u32; 6] = [
+    0x1000_05b7,
+    0x0010_0513,
+    0x00e0_0613,
+    0x0400_0893,
+    0x0000_0073,
+    0x0010_0073,
+];
+
+/// The fourteen bytes.
+const WRITTEN: &[u8] = b"fourteen bytes";
+
+/// The same as `SEVEN`, as GNU objdump lists them.
 const SEVEN_LISTED: &[u8] =
     b"00010000 00700513 addi x10,x0,7\n00010004 05d00893 addi x17,x0,93\n00010008 00000073 ecall\n";
 
@@ -40,6 +74,11 @@ fn cut(bytes: &[u8], count: usize) -> &[u8] {
     }
 }
 
+/// Every byte, in rising order.
+fn every_byte(alloc: Global) -> Result<Vec<u8>, AllocError> {
+    (0..=255u8).collect(alloc)
+}
+
 /// A store with executables that end, trap or are damaged, and with inputs.
 fn programs(alloc: Global) -> Result<MemStore, Fail> {
     let seven = executable(alloc, &SEVEN, b"")?;
@@ -62,6 +101,9 @@ fn programs(alloc: Global) -> Result<MemStore, Fail> {
     store.add("high", &patched(alloc, &seven, 84, 1)?)?;
     let data = executable(alloc, &[0xfff1_2e23], b"\x73\x00\x00\x00\x05")?;
     store.add("two", &patched(alloc, &data, 124, 7)?)?;
+    store.add("echo.elf", &executable(alloc, &ECHO, &[0; 100])?)?;
+    store.add("write.elf", &executable(alloc, &WRITE, WRITTEN)?)?;
+    store.add("bytes", &every_byte(alloc)?)?;
     store.add("input", b"input")?;
     store.add("most", &vec![in alloc; b' '; 16_777_216]?)?;
     store.add("long", &vec![in alloc; b' '; 16_777_217]?)?;
@@ -135,6 +177,48 @@ fn runs_and_flips(rt: HostRuntime) -> Result<(), Fail> {
         let ended = run(alloc, line, &mut store, &[])?;
         ends(&rt, line, ended, status, b"", told);
     }
+    // What is read and written: three pieces take ten instructions each, and the rest nine.
+    let bytes = every_byte(alloc)?;
+    let written: [(&str, u8, &[u8], &[u8]); 9] = [
+        (
+            "run echo.elf bytes 40",
+            0,
+            &bytes,
+            b"ended status=0 steps=39\n",
+        ),
+        (
+            "run echo.elf bytes 39",
+            0,
+            &bytes,
+            b"ended status=0 steps=39\n",
+        ),
+        ("run echo.elf bytes 38", 4, &bytes, b"steps over\n"),
+        (
+            "run echo.elf bytes 20",
+            4,
+            cut(&bytes, 200),
+            b"steps over\n",
+        ),
+        ("run echo.elf - 9", 0, b"", b"ended status=0 steps=9\n"),
+        (
+            "run write.elf - 9",
+            3,
+            WRITTEN,
+            b"trap pc=00010014 cause=Illegal\n",
+        ),
+        ("run write.elf - 5", 4, WRITTEN, b"steps over\n"),
+        ("run write.elf - 4", 4, b"", b"steps over\n"),
+        (
+            "flip write.elf - 9 4 12 0",
+            3,
+            b"",
+            b"trap pc=00010010 cause=Load\n",
+        ),
+    ];
+    for (line, status, text, told) in written {
+        let ended = run(alloc, line, &mut store, &[])?;
+        ends(&rt, line, ended, status, text, told);
+    }
     let listed: [(&str, &[u8]); 5] = [
         ("disasm h.elf", SEVEN_LISTED),
         ("disasm odd", cut(SEVEN_LISTED, 65)),
@@ -188,7 +272,25 @@ fn tells_faults_of_runs(rt: HostRuntime) -> Result<(), Fail> {
         }
     }
 
-    // Each put on `out` fails in turn.
+    // Each put of a program's output fails in turn: a status 0 becomes 6 and no line tells an end; others stay.
+    let rows: [(&str, u8, &[u8], &[u8]); 3] = [
+        ("run echo.elf input 99", 6, b"input", b"write fault\n"),
+        (
+            "run write.elf - 9",
+            3,
+            WRITTEN,
+            b"trap pc=00010014 cause=Illegal\n",
+        ),
+        ("run write.elf - 5", 4, WRITTEN, b"steps over\n"),
+    ];
+    for (line, status, text, told) in rows {
+        for put in 0..text.len().div_ceil(11) {
+            let ended = run(alloc, line, &mut store, &[put as u64])?;
+            ends(&rt, line, ended, status, cut(text, put.min(99) * 11), told);
+        }
+    }
+
+    // Each put of a listing fails in turn.
     for put in 0..SEVEN_LISTED.len().div_ceil(11) {
         let ended = run(alloc, "disasm h.elf", &mut store, &[put as u64])?;
         let taken = cut(SEVEN_LISTED, put.min(99) * 11);
