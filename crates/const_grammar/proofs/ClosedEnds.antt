@@ -1,6 +1,6 @@
 -- No type and no constant ends in a bracket that opens.
 use Rattle.std.proofs.Common.{◌≡◌, ℕ, Bool, true, false, List, [], ◌∷◌, ◌++◌, Some, None, refl, sym, ◌∙◌, ap, subst, if◌then◌else◌, is_some}
-use Rattle.ir_grammar.specs.Language.{Lang, Mark, one, many, skip, seq}
+use Rattle.ir_grammar.specs.Language.{Lang, Mark, one, skip, seq}
 use Rattle.ir_grammar.proofs.Recursion.{recursive_out}
 use Rattle.ir_tree.specs.Shape.{TyShape, ConstShape}
 use Rattle.ir_lex.specs.Symbols.{Symbol, MarkSymbol}

@@ -1,7 +1,7 @@
 -- The law of the reader of constants.
 use Rattle.std.proofs.Common.{◌≡◌, ℕ, suc, true, false, [], ◌∷◌, refl, Some, subst, sym}
-use Rattle.ir_grammar.specs.Language.{Lang, mark, empty, one, many}
-use Rattle.ir_grammar.specs.Reader.{Reader, heads, run_many, run_one}
+use Rattle.ir_grammar.specs.Language.{Lang, mark, empty}
+use Rattle.ir_grammar.specs.Reader.{Reader, heads}
 use Rattle.ir_grammar.proofs.Good.{never, Good, Starts}
 use Rattle.ir_grammar.proofs.Sides.{starts_pick, starts_recursive, starts_map, starts_seq, joins_never, joins_starts}
 use Rattle.ir_grammar.proofs.Laws.{good_one, good_pick, good_map, good_seq, good_empty, good_next}

@@ -1,14 +1,13 @@
 -- The spelling of a constant is a word of the grammar, so it reads back.
-use Rattle.std.proofs.Common.{◌≡◌, ℕ, Bool, true, false, List, [], ◌∷◌, ◌++◌, refl, ◌∙◌, ap, Some, inl, inr}
-use Rattle.std.specs.List.{list_any}
-use Rattle.ir_grammar.specs.Language.{mark, one, many, skip}
+use Rattle.std.proofs.Common.{◌≡◌, ℕ, Bool, true, false, List, [], ◌∷◌, ◌++◌, refl, ap, Some, inl, inr}
+use Rattle.ir_grammar.specs.Language.{mark, many, skip}
 use Rattle.ir_grammar.proofs.Recursion.{recursive_in}
 use Rattle.ir_tree.specs.Shape.{TyShape, ConstShape, number, boolean, null, undef, poison, zero_value, text, elements, fields, global, address, TypedShape, typed, TypedShapes, no_values, values, typed_row}
 use Rattle.ir_words.specs.declared.words.Keyword.TheVariants.{True, False, Null, Undef, Poison, ZeroInitializer, GetElementPtr, InBounds}
 use Rattle.ir_lex.specs.Symbols.{Symbol, KeywordSymbol, GlobalSymbol, NumberSymbol, TextSymbol, MarkSymbol}
 use Rattle.ir_symbols.specs.Marks.{punct}
 use Rattle.const_grammar.specs.Types.{ty}
-use Rattle.const_grammar.specs.Constants.{address_flag, address_flags, WholeConst, ElementsOpen, ValuesOpen, PackedValuesOpen, AddressOpen, typed_const, typed_list, const_rule, const}
+use Rattle.const_grammar.specs.Constants.{address_flags, WholeConst, ElementsOpen, ValuesOpen, PackedValuesOpen, AddressOpen, typed_const, typed_list, const_rule, const}
 use Rattle.const_grammar.specs.Spelling.{in_braces, ty_spelling, flag_spelling, const_spelling, typed_spelling, typed_list_spelling, typed_more_spelling, FitsConst, FitsTyped, FitTyped}
 use Rattle.const_grammar.proofs.ConstLaw.{regular_const}
 use Rattle.const_grammar.proofs.TypeSpelled.{closed, spelled_ty}

@@ -1,5 +1,5 @@
 -- The flags so far, and those still to come.
-use Rattle.std.proofs.Common.{◌≡◌, ℕ, zero, suc, ◌≤◌, ◌||◌, Bool, true, false, List, [], ◌∷◌, length, drop, refl, sym, ◌∙◌, ap, subst}
+use Rattle.std.proofs.Common.{◌≡◌, ℕ, zero, suc, ◌||◌, Bool, true, false, List, ◌∷◌, refl, ap}
 use Rattle.std.specs.List.{list_any}
 use Rattle.ir_grammar.specs.Reader.{Out, Got, Wrong, then_out, heads, opens, run_one, run_many, run_map}
 use Rattle.ir_lex.specs.Symbols.{Symbol}

@@ -1,5 +1,5 @@
 -- Parts of constants that were read one after another: the names grow in between, and what was read before keeps its shape.
-use Rattle.std.proofs.Common.{◌≡◌, ℕ, Bool, true, List, [], ◌∷◌, ◌++◌, length, map, sym, ◌∙◌, ap, subst, refl, Vec}
+use Rattle.std.proofs.Common.{◌≡◌, ℕ, Bool, true, List, length, map, sym, ◌∙◌, ap, Vec}
 use Rattle.std.specs.List.{list_all}
 use Rattle.std.specs.declared.alloc.Global.{Global}
 use Rattle.ir_grammar.specs.Language.{Mark}
@@ -15,11 +15,10 @@ use Rattle.ir_tree.specs.declared.types.Const.{Const}
 use Rattle.ir_tree.specs.declared.types.Const.TheOpen as constant
 use Rattle.ir_tree.specs.declared.types.Const.TheFolds.{fold-roll-Typed}
 use Rattle.ir_tree.specs.declared.types.Typed.{Typed, roll-Typed}
-use Rattle.ir_tree.proofs.Grows.{and_both, and_left, and_right, list_all-weaker}
+use Rattle.ir_tree.proofs.Grows.{and_both}
 use Rattle.const_grammar.specs.Types.{run_ty}
 use Rattle.const_grammar.specs.Constants.{Operands as OperandShapes, run_typed_const, run_operands}
 use Rattle.const_reader.specs.Operands.{operands_shape, operands_known}
-use Rattle.const_reader.specs.declared.constants.Operands.{Operands}
 use Rattle.type_reader.proofs.NamedItems.{Keeps, tys_keep, typed_keep, grows_length}
 
 kept_one : {A V : Type 0} {shape : List (List ℕ) → A → V} {known : ℕ → A → Bool} → Keeps shape known → {old new : List (List ℕ)} → Grows old new

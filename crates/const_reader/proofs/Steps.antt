@@ -1,6 +1,6 @@
 -- One step of the reader of constants.
 use Rattle.std.proofs.Common.{◌≡◌, ℕ, zero, suc, ◌-◌, ◌<◌, List, refl, arith}
-use Rattle.ir_grammar.specs.Reader.{Out, Got, Wrong, run_recursive, then_out, run_one}
+use Rattle.ir_grammar.specs.Reader.{Wrong, run_recursive, then_out, run_one}
 use Rattle.ir_lex.specs.Symbols.{Symbol}
 use Rattle.const_grammar.specs.Constants.{const_head, run_const, run_const_rest}
 

@@ -1,16 +1,15 @@
 -- Loops over items that name what they hold: the table of names grows, and what was read before keeps its shape.
-use Rattle.std.proofs.Common.{◌≡◌, ℕ, suc, zero, ◌+◌, ◌≤◌, ◌&&◌, Bool, true, false, List, [], ◌∷◌, ◌++◌, length, map, drop, Option, refl, sym, ◌∙◌, ap, subst, arith, if◌then◌else◌}
+use Rattle.std.proofs.Common.{◌≡◌, ℕ, suc, ◌+◌, ◌≤◌, ◌&&◌, Bool, true, false, List, [], ◌∷◌, ◌++◌, length, map, drop, Option, refl, sym, ◌∙◌, ap, subst, arith}
 use Rattle.std.proofs.lemmas.List.{map-append, length-append}
 use Rattle.std.specs.List.{list_all}
 use Rattle.ir_grammar.specs.Language.{Mark}
 use Rattle.ir_grammar.specs.Code.{Stops}
-use Rattle.ir_grammar.specs.Reader.{Out, Got, Wrong, Reader, heads, opens, run_one, run_items, run_listed, run_skip, run_until}
+use Rattle.ir_grammar.specs.Reader.{Out, Got, Reader, heads, opens, run_one, run_items, run_listed, run_skip, run_until}
 use Rattle.ir_grammar.specs.declared.Stop.{Stop}
-use Rattle.ir_grammar.proofs.Loops.{UntilLeft, until_start, until_go_on, ItemsLeft, items_start, items_go_on, items_stop_in_item, items_stop_after_item, items_close, items_run_out}
+use Rattle.ir_grammar.proofs.Loops.{UntilLeft, until_start, until_go_on, ItemsLeft, items_start, items_go_on, items_close}
 use Rattle.ir_tree.specs.NameTable.{Grows}
 use Rattle.ir_tree.specs.ShapeOf.{ty_shape, typed_shape}
 use Rattle.ir_tree.specs.Known.{ty_known, typed_known}
-use Rattle.ir_tree.specs.declared.types.Ty.{Ty}
 use Rattle.ir_grammar.specs.declared.Stop.TheVariants.{WrongSymbol, OutOfMemory}
 use Rattle.ir_tree.proofs.GrowsConst.{typed_shape-append, typed_known-more}
 use Rattle.ir_tree.proofs.Table.{grows_same, grows_on}

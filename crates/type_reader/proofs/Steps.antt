@@ -1,9 +1,8 @@
 -- One step of the reader of types.
-use Rattle.std.proofs.Common.{◌≡◌, ℕ, zero, suc, ◌-◌, ◌<◌, List, refl, arith, ap, ◌∙◌, sym}
-use Rattle.ir_grammar.specs.Reader.{Out, Got, Wrong, run_recursive, then_out, run_one}
-use Rattle.ir_tree.specs.Shape.{TyShape}
+use Rattle.std.proofs.Common.{◌≡◌, ℕ, zero, suc, ◌-◌, ◌<◌, List, refl, arith}
+use Rattle.ir_grammar.specs.Reader.{Wrong, run_recursive, then_out, run_one}
 use Rattle.ir_lex.specs.Symbols.{Symbol}
-use Rattle.const_grammar.specs.Types.{TyHead, ty_head, run_ty, run_ty_rest}
+use Rattle.const_grammar.specs.Types.{ty_head, run_ty, run_ty_rest}
 
 pub run_ty_none : (ts : List Symbol) → run_ty zero ts ≡ Wrong ts
 unfolding run_recursive

@@ -1,4 +1,4 @@
-use Rattle.std.proofs.Common.{◌≡◌, List, ℕ, IfOk, subst}
+use Rattle.std.proofs.Common.{◌≡◌, IfOk, subst}
 use Rattle.const_reader.proofs.Texts.{text_same}
 use Rattle.const_reader.proofs.heads.bytes_of.Goals as goal
 

@@ -1,6 +1,6 @@
 use Rattle.std.proofs.Common.{◌≡◌, ◌+◌, ◌-◌, ◌||◌, suc, drop, sym, ◌∙◌, ap, arith}
 use Rattle.ir_lex.specs.Symbols.{symbols_of}
-use Rattle.const_reader.proofs.Flags.{flags_with, flags_more, flags_last, flags_out, flags_start}
+use Rattle.const_reader.proofs.Flags.{flags_with, flags_more, flags_last, flags_out}
 use Rattle.const_reader.proofs.heads.flags_at.Goals as goal
 use Rattle.const_reader.proofs.heads.flags_at.Goals.{then-inbounds, else-inbounds}
 
