@@ -86,14 +86,18 @@ fn returning(alloc: Global, literal: &str) -> Result<String, AllocError> {
 #[test]
 fn compiles_what_returns_a_number(rt: HostRuntime) -> Result<(), Fail> {
     let alloc = rt.alloc();
-    let built = [
-        ("7 }", b"\x13\x05\x70\x00"),
-        ("-1 }", b"\x13\x05\xf0\x0f"),
-        ("256 }\n", b"\x13\x05\x00\x00"),
-        ("0 }", b"\x13\x05\x00\x00"),
-        ("-999999999 }", b"\x13\x05\x10\x00"),
+    let built: [(&str, &[u8], &[u8]); 5] = [
+        ("7 }", b"\x13\x05\x70\x00", b"ended status=7 steps=3\n"),
+        ("-1 }", b"\x13\x05\xf0\x0f", b"ended status=255 steps=3\n"),
+        ("256 }\n", b"\x13\x05\x00\x00", b"ended status=0 steps=3\n"),
+        ("0 }", b"\x13\x05\x00\x00", b"ended status=0 steps=3\n"),
+        (
+            "-999999999 }",
+            b"\x13\x05\x10\x00",
+            b"ended status=1 steps=3\n",
+        ),
     ];
-    for (rest, first) in built {
+    for (rest, first, told) in built {
         let mut store = MemStore::new(Vec::new(alloc));
         store.add("a.ll", returning(alloc, rest)?.as_bytes())?;
         let ended = run(alloc, "compile a.ll a.elf", &mut store, &[])?;
@@ -102,6 +106,10 @@ fn compiles_what_returns_a_number(rt: HostRuntime) -> Result<(), Fail> {
             is_executable(store.file("a.elf").unwrap_or(b""), first),
             "{rest}"
         );
+        let ended = run(alloc, "run a.elf - 3", &mut store, &[])?;
+        ends(&rt, rest, ended, 0, b"", told);
+        let ended = run(alloc, "run a.elf - 2", &mut store, &[])?;
+        ends(&rt, rest, ended, 4, b"", b"steps over\n");
     }
     let refused = [
         "007 }",
