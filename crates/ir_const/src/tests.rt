@@ -1,38 +1,10 @@
 use super::*;
-use ir_lex::{Token, tokens};
+use ir_lex::tokens;
 use ir_tree::names::Names;
-use ir_tree::types::{Const, Ty, Typed};
+use ir_tree::types::Const;
 use std::alloc::{AllocError, Global};
 use std::process::Abort;
 use std::test::Fail;
-
-/// Writes what a type is, with names by number.
-fn show_ty(shown: &mut String, ty: &Ty, depth: u8) -> Result<(), AllocError> {
-    if depth == 0 {
-        return shown.push('?');
-    }
-    match ty {
-        Ty::Int(bits) => write!(shown, "i{bits}"),
-        Ty::Ptr => shown.push_str("ptr"),
-        Ty::Void => shown.push_str("void"),
-        Ty::Array(count, element) => {
-            write!(shown, "array {count} of ")?;
-            show_ty(shown, element, depth - 1)
-        }
-        Ty::Struct(fields, packed) => {
-            shown.push_str(if *packed { "packed(" } else { "struct(" })?;
-            for field in fields {
-                show_ty(shown, field, depth - 1)?;
-                shown.push(';')?;
-            }
-            shown.push(')')
-        }
-        Ty::Named(id) => {
-            let number = id.0;
-            write!(shown, "name {number}")
-        }
-    }
-}
 
 /// The answer to a text: what was read and the next token's number, or the error.
 fn answer_ty(rt: &impl Abort, alloc: Global, text: &str) -> Result<String, Fail> {
@@ -43,8 +15,7 @@ fn answer_ty(rt: &impl Abort, alloc: Global, text: &str) -> Result<String, Fail>
     let mut shown = String::new(alloc);
     match read_ty(alloc, text.as_bytes(), &toks, 0, &mut names) {
         Ok((ty, next)) => {
-            show_ty(&mut shown, &ty, 100)?;
-            write!(shown, " to {next}")?;
+            write!(shown, "{ty:?} to {next}")?;
         }
         Err(ReadError::Deep { at }) => write!(shown, "deep {at}")?,
         Err(ReadError::Syntax { at }) => write!(shown, "syntax {at}")?,
@@ -75,23 +46,29 @@ fn nested(
 #[test]
 fn reads_types(rt: HostRuntime) -> Result<(), Fail> {
     for (text, want) in [
-        ("i1", "i1 to 1"),
-        ("i64 x", "i64 to 1"),
-        ("ptr", "ptr to 1"),
-        ("void", "void to 1"),
-        ("%T", "name 0 to 1"),
-        ("[3 x i8]", "array 3 of i8 to 5"),
-        ("[0 x ptr]", "array 0 of ptr to 5"),
-        ("[-0 x i8]", "array 0 of i8 to 5"),
+        ("i1", "Int(1) to 1"),
+        ("i64 x", "Int(64) to 1"),
+        ("ptr", "Ptr to 1"),
+        ("void", "Void to 1"),
+        ("%T", "Named(NameId(0)) to 1"),
+        ("[3 x i8]", "Array(3, Int(8)) to 5"),
+        ("[0 x ptr]", "Array(0, Ptr) to 5"),
+        ("[-0 x i8]", "Array(0, Int(8)) to 5"),
         (
             "[18446744073709551615 x i8]",
-            "array 18446744073709551615 of i8 to 5",
+            "Array(18446744073709551615, Int(8)) to 5",
         ),
-        ("{}", "struct() to 2"),
-        ("{i32, ptr}", "struct(i32;ptr;) to 5"),
-        ("<{}>", "packed() to 4"),
-        ("<{i8, [2 x ptr]}>", "packed(i8;array 2 of ptr;) to 11"),
-        ("{%A, %B, %A}", "struct(name 0;name 1;name 0;) to 7"),
+        ("{}", "Struct([], false) to 2"),
+        ("{i32, ptr}", "Struct([Int(32), Ptr], false) to 5"),
+        ("<{}>", "Struct([], true) to 4"),
+        (
+            "<{i8, [2 x ptr]}>",
+            "Struct([Int(8), Array(2, Ptr)], true) to 11",
+        ),
+        (
+            "{%A, %B, %A}",
+            "Struct([Named(NameId(0)), Named(NameId(1)), Named(NameId(0))], false) to 7",
+        ),
         ("", "syntax 0"),
         ("x", "syntax 0"),
         ("i65", "syntax 0"),
@@ -151,64 +128,6 @@ fn stops_where_brackets_nest_too_deep(rt: HostRuntime) -> Result<(), Fail> {
     Ok(())
 }
 
-/// Writes what a constant with its type is, with names by number.
-fn show_typed(shown: &mut String, typed: &Typed, depth: u8) -> Result<(), AllocError> {
-    show_ty(shown, &typed.ty, depth)?;
-    shown.push(' ')?;
-    show_const(shown, &typed.value, depth)
-}
-
-/// Writes constants with their types in a row.
-fn show_row(shown: &mut String, row: &[Typed], depth: u8) -> Result<(), AllocError> {
-    for typed in row {
-        show_typed(shown, typed, depth)?;
-        shown.push(';')?;
-    }
-    shown.push(')')
-}
-
-/// Writes what a constant is, with names by number.
-fn show_const(shown: &mut String, constant: &Const, depth: u8) -> Result<(), AllocError> {
-    if depth == 0 {
-        return shown.push('?');
-    }
-    match constant {
-        Const::Int(number) => write!(shown, "{number}"),
-        Const::Bool(value) => shown.push_str(if *value { "true" } else { "false" }),
-        Const::Null => shown.push_str("null"),
-        Const::Undef => shown.push_str("undef"),
-        Const::Poison => shown.push_str("poison"),
-        Const::Zero => shown.push_str("zero"),
-        Const::Text(bytes) => {
-            shown.push_str("text")?;
-            for byte in bytes {
-                write!(shown, " {byte}")?;
-            }
-            Ok(())
-        }
-        Const::Array(elements) => {
-            shown.push_str("array(")?;
-            show_row(shown, elements, depth - 1)
-        }
-        Const::Struct(fields, packed) => {
-            shown.push_str(if *packed { "packed(" } else { "struct(" })?;
-            show_row(shown, fields, depth - 1)
-        }
-        Const::Global(id) => {
-            let number = id.0;
-            write!(shown, "name {number}")
-        }
-        Const::Gep(inbounds, ty, base, indices) => {
-            shown.push_str(if *inbounds { "inbounds(" } else { "address(" })?;
-            show_ty(shown, ty, depth - 1)?;
-            shown.push(';')?;
-            show_typed(shown, base, depth - 1)?;
-            shown.push(';')?;
-            show_row(shown, indices, depth - 1)
-        }
-    }
-}
-
 /// The answer to a text: what was read and the next token's number, or the error.
 fn answer_const(rt: &impl Abort, alloc: Global, text: &str) -> Result<String, Fail> {
     let toks = tokens(alloc, text.as_bytes())?;
@@ -218,8 +137,7 @@ fn answer_const(rt: &impl Abort, alloc: Global, text: &str) -> Result<String, Fa
     let mut shown = String::new(alloc);
     match read_const(alloc, text.as_bytes(), &toks, 0, &mut names) {
         Ok((constant, next)) => {
-            show_const(&mut shown, &constant, 100)?;
-            write!(shown, " to {next}")?;
+            write!(shown, "{constant:?} to {next}")?;
         }
         Err(ReadError::Deep { at }) => write!(shown, "deep {at}")?,
         Err(ReadError::Syntax { at }) => write!(shown, "syntax {at}")?,
@@ -231,44 +149,53 @@ fn answer_const(rt: &impl Abort, alloc: Global, text: &str) -> Result<String, Fa
 #[test]
 fn reads_constants(rt: HostRuntime) -> Result<(), Fail> {
     for (text, want) in [
-        ("0", "0 to 1"),
-        ("-7", "-7 to 1"),
-        ("007", "7 to 1"),
+        ("0", "Int(0) to 1"),
+        ("-7", "Int(-7) to 1"),
+        ("007", "Int(7) to 1"),
         (
             "170141183460469231731687303715884105727",
-            "170141183460469231731687303715884105727 to 1",
+            "Int(170141183460469231731687303715884105727) to 1",
         ),
         (
             "-170141183460469231731687303715884105728",
-            "-170141183460469231731687303715884105728 to 1",
+            "Int(-170141183460469231731687303715884105728) to 1",
         ),
-        ("true", "true to 1"),
-        ("false", "false to 1"),
-        ("null", "null to 1"),
-        ("undef", "undef to 1"),
-        ("poison", "poison to 1"),
-        ("zeroinitializer", "zero to 1"),
-        ("c\"a\\0A\\00\\\\\"", "text 97 10 0 92 to 1"),
-        ("c\"\"", "text to 1"),
-        ("@g", "name 0 to 1"),
-        ("@\"g\"", "name 0 to 1"),
-        ("[]", "array() to 2"),
-        ("[i8 1, i8 -1]", "array(i8 1;i8 -1;) to 7"),
-        ("{}", "struct() to 2"),
+        ("true", "Bool(true) to 1"),
+        ("false", "Bool(false) to 1"),
+        ("null", "Null to 1"),
+        ("undef", "Undef to 1"),
+        ("poison", "Poison to 1"),
+        ("zeroinitializer", "Zero to 1"),
+        ("c\"a\\0A\\00\\\\\"", "Text([97, 10, 0, 92]) to 1"),
+        ("c\"\"", "Text([]) to 1"),
+        ("@g", "Global(NameId(0)) to 1"),
+        ("@\"g\"", "Global(NameId(0)) to 1"),
+        ("[]", "Array([]) to 2"),
+        (
+            "[i8 1, i8 -1]",
+            "Array([Typed { ty: Int(8), value: Int(1) }, Typed { ty: Int(8), value: Int(-1) }]) to 7",
+        ),
+        ("{}", "Struct([], false) to 2"),
         (
             "{ptr @a, {i8} {i8 2}}",
-            "struct(ptr name 0;struct(i8;) struct(i8 2;);) to 12",
+            "Struct([Typed { ty: Ptr, value: Global(NameId(0)) }, Typed { ty: Struct([Int(8)], false), value: Struct([Typed { ty: Int(8), value: Int(2) }], false) }], false) to 12",
         ),
-        ("<{}>", "packed() to 4"),
-        ("<{i8 1}> x", "packed(i8 1;) to 6"),
-        ("getelementptr (i8, ptr @a)", "address(i8;ptr name 0;) to 7"),
+        ("<{}>", "Struct([], true) to 4"),
+        (
+            "<{i8 1}> x",
+            "Struct([Typed { ty: Int(8), value: Int(1) }], true) to 6",
+        ),
+        (
+            "getelementptr (i8, ptr @a)",
+            "Gep(false, Int(8), Typed { ty: Ptr, value: Global(NameId(0)) }, []) to 7",
+        ),
         (
             "getelementptr inbounds nuw (%T, ptr @a, i64 1, i32 0)",
-            "inbounds(name 0;ptr name 1;i64 1;i32 0;) to 15",
+            "Gep(true, Named(NameId(0)), Typed { ty: Ptr, value: Global(NameId(1)) }, [Typed { ty: Int(64), value: Int(1) }, Typed { ty: Int(32), value: Int(0) }]) to 15",
         ),
         (
             "getelementptr nuw (i8, ptr null, i64 1)",
-            "address(i8;ptr null;i64 1;) to 11",
+            "Gep(false, Int(8), Typed { ty: Ptr, value: Null }, [Typed { ty: Int(64), value: Int(1) }]) to 11",
         ),
         ("", "syntax 0"),
         ("i8", "syntax 0"),
@@ -315,7 +242,7 @@ fn reads_constants(rt: HostRuntime) -> Result<(), Fail> {
     }
     let text = nested(rt.alloc(), "[ptr ", "null", "]", 64)?;
     let answer = answer_const(&rt, rt.alloc(), text.as_str())?;
-    assert!(rt; answer.as_str().starts_with("array("), "at {text}");
+    assert!(rt; answer.as_str().starts_with("Array("), "at {text}");
     Ok(())
 }
 
@@ -335,12 +262,11 @@ fn reads_many_elements(rt: HostRuntime) -> Result<(), Fail> {
     let mut names = Names::new(rt.alloc());
     assert!(rt; toks.len() < 1 << 31);
     assert!(rt; names.len() < 1 << 30);
-    match read_const(rt.alloc(), text.as_bytes(), &toks, 0, &mut names) {
-        Ok((Const::Array(elements), next)) => {
-            assert_eq!(rt; elements.len(), 200_000);
-            assert_eq!(rt; next, toks.len());
-        }
-        _ => panic!(rt; "it was not read"),
+    let (constant, next) = read_const(rt.alloc(), text.as_bytes(), &toks, 0, &mut names)?;
+    assert_eq!(rt; next, toks.len());
+    match &constant {
+        Const::Array(elements) => assert_eq!(rt; elements.len(), 200_000),
+        _ => panic!(rt; "it was read as something else"),
     }
     Ok(())
 }
