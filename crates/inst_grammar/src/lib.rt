@@ -1,0 +1,32 @@
+//! The grammar of instructions, and what its readers give.
+//!
+//! The definitions stand in `specs/`: which symbols spell which phis, instructions and terminators. The
+//! functions have no code: their contracts are the laws.
+#![tactic(auto)]
+
+ghost use Rattle.std.specs.Prelude.{List, length};
+ghost use Rattle.ir_grammar.specs.Reader.{heads};
+ghost use Rattle.ir_lex.specs.Symbols.{Symbol};
+ghost use Rattle.ir_symbols.specs.Marks.{punct};
+ghost use Rattle.inst_grammar.specs.Operands.{begins_val};
+ghost use Rattle.inst_grammar.specs.Instructions.{phi, run_phi, inst, run_inst};
+ghost use Rattle.inst_grammar.specs.Terminators.{term, run_term};
+ghost use Rattle.inst_grammar.specs.OpenRules.{ReadsOpen};
+
+/// The reader of phis gives the phi that a front of the symbols spells, where no comma follows it, and
+/// else the first wrong symbol.
+pub fn phis_are_read()
+    ensures { (symbols : List Symbol) → ReadsOpen phi (heads (punct 44)) symbols (run_phi (length symbols) symbols) }
+{}
+
+/// The reader of instructions gives the instruction that a front of the symbols spells, where no comma
+/// follows it, and else the first wrong symbol.
+pub fn instructions_are_read()
+    ensures { (symbols : List Symbol) → ReadsOpen inst (heads (punct 44)) symbols (run_inst (length symbols) symbols) }
+{}
+
+/// The reader of terminators gives the terminator that a front of the symbols spells, where nothing that
+/// a value begins with follows it, and else the first wrong symbol.
+pub fn terminators_are_read()
+    ensures { (symbols : List Symbol) → ReadsOpen term begins_val symbols (run_term (length symbols) symbols) }
+{}
