@@ -5,3 +5,4 @@ pub mod InstLaw
 pub mod TermLaw
 pub mod OpenReading
 pub mod Overlap
+pub mod TermLines

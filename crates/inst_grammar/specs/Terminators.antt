@@ -69,6 +69,33 @@ term_rest UnreachableWord = empty unreachable
 abbrev pub term : Lang Symbol BodyShape
 term = pick term_head term_rest
 
+-- the words of terminators
+abbrev pub br_word : Symbol → Option Mark
+br_word (KeywordSymbol Br) = Some mark
+br_word _ = None
+
+abbrev pub switch_word : Symbol → Option Mark
+switch_word (KeywordSymbol Switch) = Some mark
+switch_word _ = None
+
+abbrev pub ret_word : Symbol → Option Mark
+ret_word (KeywordSymbol Ret) = Some mark
+ret_word _ = None
+
+abbrev pub unreachable_word : Symbol → Option Mark
+unreachable_word (KeywordSymbol Unreachable) = Some mark
+unreachable_word _ = None
+
+-- the same rule as it is written: six lines, each with its own word
+abbrev pub term_lines : Lang Symbol BodyShape
+term_lines =
+    or_else (skip br_word (map_to jump target))
+    (or_else (skip br_word two_ways)
+    (or_else (skip switch_word switch)
+    (or_else (skip ret_word (skip void_word (empty return_void)))
+    (or_else (skip ret_word (map_to return_value ty_val))
+    (skip unreachable_word (empty unreachable))))))
+
 -- the readers of these, of at most n symbols
 abbrev pub run_more_target : Reader Symbol (List ℕ)
 run_more_target = run_skip (punct 44) run_target

@@ -7,10 +7,11 @@
 ghost use Rattle.std.specs.Prelude.{List, length};
 ghost use Rattle.ir_grammar.specs.Reader.{heads};
 ghost use Rattle.ir_lex.specs.Symbols.{Symbol};
+ghost use Rattle.ir_tree.specs.Shape.{BodyShape};
 ghost use Rattle.ir_symbols.specs.Marks.{punct};
 ghost use Rattle.inst_grammar.specs.Operands.{begins_val};
 ghost use Rattle.inst_grammar.specs.Instructions.{phi, run_phi, inst, run_inst};
-ghost use Rattle.inst_grammar.specs.Terminators.{term, run_term};
+ghost use Rattle.inst_grammar.specs.Terminators.{term, term_lines, run_term};
 ghost use Rattle.inst_grammar.specs.OpenRules.{ReadsOpen};
 
 /// The reader of phis gives the phi that a front of the symbols spells, where no comma follows it, and
@@ -29,4 +30,10 @@ pub fn instructions_are_read()
 /// a value begins with follows it, and else the first wrong symbol.
 pub fn terminators_are_read()
     ensures { (symbols : List Symbol) → ReadsOpen term begins_val symbols (run_term (length symbols) symbols) }
+{}
+
+/// The rule of terminators, told by the first word, spells exactly what its written lines spell.
+pub fn terminators_are_as_written()
+    ensures into { (symbols : List Symbol) (body : BodyShape) → term symbols body → term_lines symbols body }
+    ensures back { (symbols : List Symbol) (body : BodyShape) → term_lines symbols body → term symbols body }
 {}
