@@ -6,3 +6,7 @@ pub mod TermLaw
 pub mod OpenReading
 pub mod Overlap
 pub mod TermLines
+pub mod OperandSpelled
+pub mod InstSpelled
+pub mod TermSpelled
+pub mod InstFits

@@ -7,7 +7,7 @@ use Rattle.ir_grammar.proofs.Good.{Clear, Outcome, Good}
 use Rattle.ir_grammar.proofs.Reading.{reads_all}
 use Rattle.inst_grammar.specs.OpenRules.{ReadsOpen}
 
-not_opened : {S : Type 0} (s : S → Bool) (xs : List S) → opens s xs ≡ false → Clear s xs
+pub not_opened : {S : Type 0} (s : S → Bool) (xs : List S) → opens s xs ≡ false → Clear s xs
 not_opened s [] o = tt
 not_opened s (x ∷ xs) o = o
 

@@ -4,3 +4,4 @@ pub mod Memory
 pub mod Instructions
 pub mod Terminators
 pub mod OpenRules
+pub mod Spelling

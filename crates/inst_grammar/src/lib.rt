@@ -4,8 +4,8 @@
 //! functions have no code: their contracts are the laws.
 #![tactic(auto)]
 
-ghost use Rattle.std.specs.Prelude.{List, length};
-ghost use Rattle.ir_grammar.specs.Reader.{heads};
+ghost use Rattle.std.specs.Prelude.{◌≡◌, false, List, length, ◌++◌};
+ghost use Rattle.ir_grammar.specs.Reader.{Got, heads, opens};
 ghost use Rattle.ir_lex.specs.Symbols.{Symbol};
 ghost use Rattle.ir_tree.specs.Shape.{BodyShape};
 ghost use Rattle.ir_symbols.specs.Marks.{punct};
@@ -13,6 +13,7 @@ ghost use Rattle.inst_grammar.specs.Operands.{begins_val};
 ghost use Rattle.inst_grammar.specs.Instructions.{phi, run_phi, inst, run_inst};
 ghost use Rattle.inst_grammar.specs.Terminators.{term, term_lines, run_term};
 ghost use Rattle.inst_grammar.specs.OpenRules.{ReadsOpen};
+ghost use Rattle.inst_grammar.specs.Spelling.{body_spelling, FitsPhi, FitsInst, FitsTerm};
 
 /// The reader of phis gives the phi that a front of the symbols spells, where no comma follows it, and
 /// else the first wrong symbol.
@@ -36,4 +37,28 @@ pub fn terminators_are_read()
 pub fn terminators_are_as_written()
     ensures into { (symbols : List Symbol) (body : BodyShape) → term symbols body → term_lines symbols body }
     ensures back { (symbols : List Symbol) (body : BodyShape) → term_lines symbols body → term symbols body }
+{}
+
+/// What spells a phi fits, and the spelling of a phi that fits is read back, where no comma
+/// follows it.
+pub fn phis_are_read_back()
+    ensures fits { (symbols : List Symbol) (body : BodyShape) → phi symbols body → FitsPhi body }
+    ensures back { (body : BodyShape) (rest : List Symbol) → FitsPhi body → opens (heads (punct 44)) rest ≡ false →
+        run_phi (length (body_spelling body ++ rest)) (body_spelling body ++ rest) ≡ Got body rest }
+{}
+
+/// What spells an instruction fits, and the spelling of an instruction that fits is read back, where no comma
+/// follows it.
+pub fn instructions_are_read_back()
+    ensures fits { (symbols : List Symbol) (body : BodyShape) → inst symbols body → FitsInst body }
+    ensures back { (body : BodyShape) (rest : List Symbol) → FitsInst body → opens (heads (punct 44)) rest ≡ false →
+        run_inst (length (body_spelling body ++ rest)) (body_spelling body ++ rest) ≡ Got body rest }
+{}
+
+/// What spells a terminator fits, and the spelling of a terminator that fits is read back, where nothing that a value begins with
+/// follows it.
+pub fn terminators_are_read_back()
+    ensures fits { (symbols : List Symbol) (body : BodyShape) → term symbols body → FitsTerm body }
+    ensures back { (body : BodyShape) (rest : List Symbol) → FitsTerm body → opens begins_val rest ≡ false →
+        run_term (length (body_spelling body ++ rest)) (body_spelling body ++ rest) ≡ Got body rest }
 {}
