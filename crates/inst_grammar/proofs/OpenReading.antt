@@ -1,5 +1,6 @@
 -- From the law of a reader to what it answers at a list.
-use Rattle.std.proofs.Common.{◌≡◌, ℕ, ◌≤◌, Bool, false, List, [], ◌∷◌, length, refl, sym, ◌∙◌}
+use Rattle.std.proofs.Common.{◌≡◌, ℕ, ◌≤◌, Bool, false, List, [], ◌∷◌, length, refl, sym, ◌∙◌, subst}
+use Rattle.std.proofs.lemmas.List.{append_cancel_right, append-nil}
 use Rattle.ir_grammar.specs.Language.{Lang}
 use Rattle.ir_grammar.specs.Reader.{Out, Got, Wrong, Reader, opens, all_read}
 use Rattle.ir_grammar.specs.FirstWrong.{ReadsAll}
@@ -12,12 +13,24 @@ not_opened s [] o = tt
 not_opened s (x ∷ xs) o = o
 
 open_at : {S V : Type 0} (L : Lang S V) (s : S → Bool) (ts : List S) (o : Out S V) → Outcome L s ts o → ReadsAll L ts (all_read o) → ReadsOpen L s ts o
-open_at L s ts (Got v rest) g whole = (
-  g.front,
-  g.cut,
+open_at L s ts (Got v []) g whole = (
+  record {
+    before = g.front;
+    cut = g.cut;
+    begins = ([], v, subst (λ z. L z v) (sym (append-nil g.front)) g.spells);
+    wrong = λ t more e word. cc;
+  },
   g.spells,
-  λ q more w reading. g.only q rest more w refl reading.1 (sym g.cut ∙ reading.0) (not_opened s more reading.2),
+  λ q more w reading. g.only q [] more w refl reading.1 (sym g.cut ∙ reading.0) (not_opened s more reading.2),
 )
+open_at L s ts (Got v (t ∷ rest)) g whole =
+    let same : g.front ≡ whole.0.before = append_cancel_right g.front whole.0.before (t ∷ rest) (sym g.cut ∙ whole.0.cut) in (
+      whole.0,
+      subst (λ z. L z v) same g.spells,
+      λ q more w reading.
+          let inner = g.only q (t ∷ rest) more w refl reading.1 (sym g.cut ∙ reading.0) (not_opened s more reading.2) in
+          (inner.0 ∙ same, inner.1),
+    )
 open_at L s ts (Wrong rest) g whole = (
   whole.0,
   λ q more w reading. g.dead q rest more w refl reading.1 (sym g.cut ∙ reading.0) (not_opened s more reading.2),

@@ -9,9 +9,9 @@ use Rattle.ir_grammar.specs.FirstWrong.{FirstWrong}
 abbrev pub IsReading : {S V : Type 0} → Lang S V → (S → Bool) → List S → List S → List S → V → Type 0
 IsReading L s ts p rest v = (ts ≡ p ++ rest) × L p v × (opens s rest ≡ false)
 
--- what a reader answers at ts, where symbols in s go on with what was read: a front of ts and what it spells, with which each reading
--- of ts is one; or the first wrong symbol, where ts has no reading
+-- what a reader answers at ts, where symbols in s go on with what was read, and the first wrong symbol: what the symbols before it
+-- spell, if they spell something, so that each reading of ts is this one; and nothing only where ts has no reading
 abbrev pub ReadsOpen : {S V : Type 0} → Lang S V → (S → Bool) → List S → Out S V → Type 0
 ReadsOpen {S} {V} L s ts (Got v rest) =
-    (p : List S) × (ts ≡ p ++ rest) × L p v × ((q more : List S) (w : V) → IsReading L s ts q more w → (q ≡ p) × (w ≡ v))
+    (g : FirstWrong L ts rest) × L g.before v × ((q more : List S) (w : V) → IsReading L s ts q more w → (q ≡ g.before) × (w ≡ v))
 ReadsOpen {S} {V} L s ts (Wrong rest) = FirstWrong L ts rest × ((q more : List S) (w : V) → IsReading L s ts q more w → ⊥)

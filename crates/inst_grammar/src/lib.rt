@@ -15,20 +15,20 @@ ghost use Rattle.inst_grammar.specs.Terminators.{term, term_lines, run_term};
 ghost use Rattle.inst_grammar.specs.OpenRules.{ReadsOpen};
 ghost use Rattle.inst_grammar.specs.Spelling.{body_spelling, FitsPhi, FitsInst, FitsTerm};
 
-/// The reader of phis gives the phi that a front of the symbols spells, where no comma follows it, and
-/// else the first wrong symbol.
+/// The reader of phis finds the first wrong symbol, and gives the phi that those before it spell. It
+/// gives none only where no front of the symbols spells one without a comma behind it.
 pub fn phis_are_read()
     ensures { (symbols : List Symbol) → ReadsOpen phi (heads (punct 44)) symbols (run_phi (length symbols) symbols) }
 {}
 
-/// The reader of instructions gives the instruction that a front of the symbols spells, where no comma
-/// follows it, and else the first wrong symbol.
+/// The reader of instructions finds the first wrong symbol, and gives the instruction that those before it spell. It
+/// gives none only where no front of the symbols spells one without a comma behind it.
 pub fn instructions_are_read()
     ensures { (symbols : List Symbol) → ReadsOpen inst (heads (punct 44)) symbols (run_inst (length symbols) symbols) }
 {}
 
-/// The reader of terminators gives the terminator that a front of the symbols spells, where nothing that
-/// a value begins with follows it, and else the first wrong symbol.
+/// The reader of terminators finds the first wrong symbol, and gives the terminator that those before it
+/// spell. It gives none only where no front of the symbols spells one without the begin of a value behind it.
 pub fn terminators_are_read()
     ensures { (symbols : List Symbol) → ReadsOpen term begins_val symbols (run_term (length symbols) symbols) }
 {}
