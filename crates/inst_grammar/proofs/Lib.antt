@@ -10,3 +10,4 @@ pub mod OperandSpelled
 pub mod InstSpelled
 pub mod TermSpelled
 pub mod InstFits
+mod Examples
