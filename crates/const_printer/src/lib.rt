@@ -50,3 +50,6 @@ pub fn printed_constants_are_read_back()
         AreTokens (joined (const_spelling c ++ rest)) toks →
         run_const (length (symbols_of (joined (const_spelling c ++ rest)) toks)) (symbols_of (joined (const_spelling c ++ rest)) toks) ≡ Got c rest }
 {}
+
+#[cfg(test)]
+mod tests;
