@@ -1,0 +1,4 @@
+pub mod LinesToldApart
+pub mod BlockLaw
+pub mod ItemLaw
+mod Examples
