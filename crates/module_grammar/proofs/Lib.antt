@@ -2,3 +2,4 @@ pub mod LinesToldApart
 pub mod BlockLaw
 pub mod ItemLaw
 mod Examples
+pub mod ModuleSpelled

@@ -4,15 +4,16 @@
 //! have no code: their contracts are the laws.
 #![tactic(auto)]
 
-ghost use Rattle.std.specs.Prelude.{List, length};
-ghost use Rattle.ir_grammar.specs.Reader.{all_read};
+ghost use Rattle.std.specs.Prelude.{◌≡◌, List, [], length};
+ghost use Rattle.ir_grammar.specs.Reader.{Got, all_read};
 ghost use Rattle.ir_grammar.specs.FirstWrong.{ReadsAll};
 ghost use Rattle.ir_lex.specs.Symbols.{Symbol};
-ghost use Rattle.ir_tree.specs.Shape.{InstShape};
+ghost use Rattle.ir_tree.specs.Shape.{InstShape, ModuleShape};
 ghost use Rattle.inst_grammar.specs.Operands.{begins_val};
 ghost use Rattle.inst_grammar.specs.OpenRules.{ReadsOpen};
 ghost use Rattle.module_grammar.specs.Blocks.{lines, told_lines, run_lines};
 ghost use Rattle.module_grammar.specs.Modules.{whole_module, run_module};
+ghost use Rattle.module_grammar.specs.Spelling.{module_spelling, FitsModule};
 
 /// The reader of modules gives the module that the symbols spell, all of them, and else the first wrong
 /// symbol.
@@ -31,4 +32,9 @@ pub fn lines_are_read()
 pub fn blocks_are_as_written()
     ensures into { (symbols : List Symbol) (insts : List InstShape) → told_lines lines symbols insts → lines symbols insts }
     ensures back { (symbols : List Symbol) (insts : List InstShape) → lines symbols insts → told_lines lines symbols insts }
+{}
+
+/// The spelling of a module that fits is read back.
+pub fn modules_are_read_back()
+    ensures { (m : ModuleShape) → FitsModule m → run_module (length (module_spelling m)) (module_spelling m) ≡ Got m [] }
 {}
