@@ -3,3 +3,4 @@ pub mod BlockLaw
 pub mod ItemLaw
 mod Examples
 pub mod ModuleSpelled
+pub mod ModuleFits

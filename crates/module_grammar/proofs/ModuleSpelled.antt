@@ -3,7 +3,7 @@ use Rattle.std.proofs.Common.{◌≡◌, ℕ, Bool, true, false, List, [], ◌�
 use Rattle.std.specs.List.{All}
 use Rattle.std.proofs.lemmas.List.{append-nil}
 use Rattle.std.proofs.lemmas.List.Elements.{All-nil, All-cons, All-head, All-tail}
-use Rattle.ir_grammar.specs.Language.{Lang, mark, maybe, many, one, until}
+use Rattle.ir_grammar.specs.Language.{mark, maybe, many, one}
 use Rattle.ir_tree.specs.Shape.{TyShape, InstShape, BlockShape, ParamShape, FunctionShape, GlobalShape, DeclareShape, NamedTyShape, ModuleShape}
 use Rattle.ir_words.specs.declared.words.Keyword.TheVariants.{«Type», Declare, Define}
 use Rattle.ir_lex.specs.Symbols.{Symbol, KeywordSymbol, LocalSymbol, GlobalSymbol, LabelSymbol, MarkSymbol}
@@ -16,7 +16,7 @@ use Rattle.inst_grammar.proofs.InstSpelled.{spelled_phi, spelled_inst}
 use Rattle.inst_grammar.proofs.TermSpelled.{spelled_term}
 use Rattle.inst_grammar.specs.Operands.{local_name}
 use Rattle.module_grammar.specs.Blocks.{result, phi_line, inst_line, last_of, lines, block}
-use Rattle.module_grammar.specs.Items.{ItemShape, type_item, global_item, declare_item, function_item, constancy, parameter, Signature, signature, declare_of, blocks, item}
+use Rattle.module_grammar.specs.Items.{ItemShape, type_item, global_item, declare_item, function_item, constancy, parameter, signature, blocks, item}
 use Rattle.module_grammar.specs.Modules.{with_item, module_of, whole_module}
 use Rattle.module_grammar.specs.Spelling.{result_spelling, line_spelling, block_spelling, name_spelling, parameter_spelling, signature_spelling, without_name, constancy_word, type_spelling, global_spelling, declare_spelling, function_spelling, module_spelling, FitsPhiLine, FitsInstLine, FitLines, FitsBlock, FitBlocks, FitsParam, FitsType, FitsGlobal, FitsDeclare, FitsFunction, FitsModule}
 
@@ -43,8 +43,7 @@ spelled_lines insts g =
     let last : List Symbol = body_spelling g.last in
     let whole : in_a_row line_spelling insts ≡ front ++ (others ++ last) =
     ap (in_a_row line_spelling) g.cut ∙ row_join line_spelling g.phis (g.others ++ last_of g.last)
-    ∙ ap (λ z. front ++ z) (row_join line_spelling g.others (last_of g.last)) ∙ ap (λ z. front ++ (others ++ z)) (append-nil last) in
-    (
+    ∙ ap (λ z. front ++ z) (row_join line_spelling g.others (last_of g.last)) ∙ ap (λ z. front ++ (others ++ z)) (append-nil last) in (
       (g.phis, g.others ++ last_of g.last),
       (
         front,
@@ -73,8 +72,7 @@ spelled_parameter v h = ((v.ty, v.name), (ty_spelling v.ty, name_spelling v.name
 
 spelled_signature : (ret : TyShape) (name : List ℕ) (row : List ParamShape) → FitsTy ret → All FitsParam row → signature (signature_spelling ret name row) (ret, (name, row))
 spelled_signature ret name row h fits =
-    let last : List Symbol = with_commas parameter_spelling row ++ MarkSymbol 41 ∷ [] in
-    (
+    let last : List Symbol = with_commas parameter_spelling row ++ MarkSymbol 41 ∷ [] in (
       ty_spelling ret,
       GlobalSymbol name ∷ MarkSymbol 40 ∷ last,
       refl,
@@ -163,8 +161,7 @@ spelled_declare v h =
 spelled_blocks : (v : BlockShape) (vs : List BlockShape) → FitsBlock v → All FitsBlock vs
     → blocks (in_a_row block_spelling (v ∷ vs) ++ MarkSymbol 125 ∷ []) ((Some v.name, v.insts), vs)
 spelled_blocks v vs h fits =
-    let last : List Symbol = in_a_row block_spelling vs ++ MarkSymbol 125 ∷ [] in
-    (
+    let last : List Symbol = in_a_row block_spelling vs ++ MarkSymbol 125 ∷ [] in (
       block_spelling v,
       last,
       append_assoc (block_spelling v) (in_a_row block_spelling vs) (MarkSymbol 125 ∷ []),
@@ -204,14 +201,13 @@ spelled_function v h = spelled_function_at v.name v.ret v.params v.blocks h.0 h.
 spelled_kind : {V : Type 0} (of : V → ItemShape) (spelling : V → List Symbol) (P : V → Type 0) → ((v : V) → P v → item (spelling v) (of v))
     → (vs : List V) → All P vs → (ts : List Symbol) (us : List ItemShape) → many item ts us → many item (in_a_row spelling vs ++ ts) (map of vs ++ us)
 spelled_kind of spelling P each [] h ts us word = word
-spelled_kind of spelling P each (v ∷ vs) h ts us word =
-    (
-      spelling v,
-      in_a_row spelling vs ++ ts,
-      append_assoc (spelling v) (in_a_row spelling vs) ts,
-      each v (All-head P v vs h),
-      spelled_kind of spelling P each vs (All-tail P v vs h) ts us word,
-    )
+spelled_kind of spelling P each (v ∷ vs) h ts us word = (
+  spelling v,
+  in_a_row spelling vs ++ ts,
+  append_assoc (spelling v) (in_a_row spelling vs) ts,
+  each v (All-head P v vs h),
+  spelled_kind of spelling P each vs (All-tail P v vs h) ts us word,
+)
 
 types_in : (vs : List NamedTyShape) (us : List ItemShape) → module_of (map type_item vs ++ us)
     ≡ record { types = vs ++ (module_of us).types; globals = (module_of us).globals; declares = (module_of us).declares; functions = (module_of us).functions }

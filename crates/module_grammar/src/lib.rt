@@ -1,7 +1,7 @@
 //! The grammar of modules, and what its readers give.
 //!
-//! The definitions stand in `specs/`: which symbols spell which blocks, items and modules. The functions
-//! have no code: their contracts are the laws.
+//! The definitions stand in `specs/`: which symbols spell which blocks, items and modules, and how each is
+//! spelled. The functions have no code: their contracts are the laws.
 #![tactic(auto)]
 
 ghost use Rattle.std.specs.Prelude.{◌≡◌, List, [], length};
@@ -34,7 +34,8 @@ pub fn blocks_are_as_written()
     ensures back { (symbols : List Symbol) (insts : List InstShape) → lines symbols insts → told_lines lines symbols insts }
 {}
 
-/// The spelling of a module that fits is read back.
+/// What spells a module fits, and the spelling of a module that fits is read back.
 pub fn modules_are_read_back()
-    ensures { (m : ModuleShape) → FitsModule m → run_module (length (module_spelling m)) (module_spelling m) ≡ Got m [] }
+    ensures fits { (symbols : List Symbol) (m : ModuleShape) → whole_module symbols m → FitsModule m }
+    ensures back { (m : ModuleShape) → FitsModule m → run_module (length (module_spelling m)) (module_spelling m) ≡ Got m [] }
 {}
