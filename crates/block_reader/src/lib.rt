@@ -1,0 +1,106 @@
+//! Blocks, read from tokens.
+#![tactic(auto)]
+
+ghost use Rattle.std.specs.Prelude.{◌≡◌, ◌+◌, ◌^◌, ◌<◌, ◌≤◌, length, drop, slice_range, true, IfOk};
+ghost use Rattle.ir_grammar.specs.Code.{Gives};
+ghost use Rattle.ir_lex.specs.Symbols.{symbols_of};
+ghost use Rattle.ir_tree.specs.NameTable.{Grows};
+ghost use Rattle.module_grammar.specs.Blocks.{run_lines, run_block, run_first_block};
+ghost use Rattle.block_reader.specs.Shapes.{lines_shape, lines_known, labelled_shape, labelled_known, entry_shape, entry_known};
+ghost use Rattle.block_reader.specs.Spots.{InPieces, IsLineAt, IsBlockAt, IsEntryAt};
+
+use ir_grammar::Stop;
+use ir_lex::Token;
+use ir_tree::module::{Block, Inst};
+use ir_tree::names::{NameId, Names};
+use std::alloc::Global;
+
+/// The lines of a block, and the byte offset of the first token of each.
+#[derive(Debug, Drop)]
+pub struct Lines {
+    /// The phis, then the other instructions, the terminator last.
+    pub insts: Vec<Inst>,
+    /// Where each begins.
+    pub spots: Vec<usize>,
+}
+
+/// A block with its label, and the byte offset of the first token of each of its lines.
+#[derive(Debug, Drop)]
+pub struct LabelledBlock {
+    /// The block.
+    pub block: Block,
+    /// Where each of its lines begins.
+    pub spots: Vec<usize>,
+}
+
+/// The first block of a function, which may lack its label.
+#[derive(Debug, Drop)]
+pub struct EntryBlock {
+    /// Its label, if it has one.
+    pub label: Option<NameId>,
+    /// Its lines.
+    pub lines: Lines,
+}
+
+/// The lines of a block from `at` on, and the number of the token behind them. At most `budget` tokens are read.
+pub fn lines_at(
+    alloc: Global,
+    text: &[u8],
+    toks: &[Token],
+    at: usize,
+    budget: usize,
+    names: &mut Names,
+) -> Result<(Lines, usize), Stop>
+    requires within { at ≤ length (symbols_of text.now toks.now) }
+    requires room { length names.old + length (symbols_of text.now toks.now) < 2 ^ 32 + at }
+    ensures grows { Grows names.old names.new }
+    ensures count { IfOk result (λ x. length names.new + at ≤ length names.old + x.1) }
+    ensures known { IfOk result (λ x. lines_known (length names.new) x.0 ≡ true) }
+    ensures reads { Gives (lines_shape names.new) (symbols_of text.now toks.now) result
+        (run_lines budget (drop at (symbols_of text.now toks.now))) }
+    ensures spots { IfOk result (λ x. InPieces (IsLineAt text.now) (slice_range toks.now at x.1) (lines_shape names.new x.0) x.0.spots.items) }
+{
+    Err(Stop::OutOfMemory)
+}
+
+/// The block at `at`, which has a label, and the number of the token behind it. At most `budget` tokens are read.
+pub fn block_at(
+    alloc: Global,
+    text: &[u8],
+    toks: &[Token],
+    at: usize,
+    budget: usize,
+    names: &mut Names,
+) -> Result<(LabelledBlock, usize), Stop>
+    requires within { at ≤ length (symbols_of text.now toks.now) }
+    requires room { length names.old + length (symbols_of text.now toks.now) < 2 ^ 32 + at }
+    ensures grows { Grows names.old names.new }
+    ensures count { IfOk result (λ x. length names.new + at ≤ length names.old + x.1) }
+    ensures known { IfOk result (λ x. labelled_known (length names.new) x.0 ≡ true) }
+    ensures reads { Gives (labelled_shape names.new) (symbols_of text.now toks.now) result
+        (run_block budget (drop at (symbols_of text.now toks.now))) }
+    ensures spots { IfOk result (λ x. IsBlockAt text.now (slice_range toks.now at x.1) (labelled_shape names.new x.0) x.0.spots.items) }
+{
+    Err(Stop::OutOfMemory)
+}
+
+/// The first block of a function at `at`, and the number of the token behind it. At most `budget` tokens are read.
+pub fn entry_at(
+    alloc: Global,
+    text: &[u8],
+    toks: &[Token],
+    at: usize,
+    budget: usize,
+    names: &mut Names,
+) -> Result<(EntryBlock, usize), Stop>
+    requires within { at ≤ length (symbols_of text.now toks.now) }
+    requires room { length names.old + length (symbols_of text.now toks.now) < 2 ^ 32 + at }
+    ensures grows { Grows names.old names.new }
+    ensures count { IfOk result (λ x. length names.new + at ≤ length names.old + x.1) }
+    ensures known { IfOk result (λ x. entry_known (length names.new) x.0 ≡ true) }
+    ensures reads { Gives (entry_shape names.new) (symbols_of text.now toks.now) result
+        (run_first_block budget (drop at (symbols_of text.now toks.now))) }
+    ensures spots { IfOk result (λ x. IsEntryAt text.now (slice_range toks.now at x.1) (entry_shape names.new x.0) x.0.lines.spots.items) }
+{
+    Err(Stop::OutOfMemory)
+}
