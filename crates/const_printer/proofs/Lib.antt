@@ -1,3 +1,5 @@
+pub mod PrintableTypes
+pub mod PrintableConsts
 pub mod Rows
 pub mod TypeTexts
 pub mod ConstTexts

@@ -5,16 +5,17 @@
 //! that has a text of its own; `print_ty` and `print_const` leave `to` as before where memory runs out.
 #![tactic(auto)]
 
-ghost use Rattle.std.specs.Prelude.{◌≡◌, List, ℕ, length, ◌++◌};
+ghost use Rattle.std.specs.Prelude.{◌≡◌, List, ℕ, length, drop, ◌++◌};
+ghost use Rattle.ir_grammar.specs.FirstWrong.{Reads};
 ghost use Rattle.ir_grammar.specs.Reader.{Got};
 ghost use Rattle.ir_lex.specs.declared.token.Token.{Token};
 ghost use Rattle.ir_lex.specs.Symbols.{Symbol, symbols_of};
 ghost use Rattle.ir_lex.specs.Tokens.{AreTokens};
-ghost use Rattle.ir_spell.specs.Printed.{joined, ArePrintable};
+ghost use Rattle.ir_spell.specs.Printed.{joined, AreBytes, ArePrintable};
 ghost use Rattle.ir_spell.specs.Spells.{Spells};
 ghost use Rattle.ir_tree.specs.Shape.{TyShape, ConstShape};
-ghost use Rattle.const_grammar.specs.Types.{run_ty};
-ghost use Rattle.const_grammar.specs.Constants.{run_const};
+ghost use Rattle.const_grammar.specs.Types.{ty, run_ty};
+ghost use Rattle.const_grammar.specs.Constants.{const, run_const};
 ghost use Rattle.const_grammar.specs.Spelling.{ty_spelling, const_spelling, FitsTy, FitsConst};
 
 mod constants;
@@ -49,6 +50,32 @@ pub fn printed_constants_are_read_back()
     ensures printed { (c : ConstShape) (rest : List Symbol) (toks : List Token) → FitsConst c → ArePrintable (const_spelling c ++ rest) →
         AreTokens (joined (const_spelling c ++ rest)) toks →
         run_const (length (symbols_of (joined (const_spelling c ++ rest)) toks)) (symbols_of (joined (const_spelling c ++ rest)) toks) ≡ Got c rest }
+{}
+
+/// Types that were read are printed and read back: of what the tokens of a text of bytes spell from some token on the spelling is
+/// printable, so it is spelled by its printed form, whatever printable symbols follow, and the reader gives it again.
+pub fn read_types_are_read_back()
+    ensures printable { (text : List ℕ) (toks : List Token) (from : ℕ) (t : TyShape) (behind : List Symbol) → AreBytes text →
+        Reads ty (drop from (symbols_of text toks)) (Got t behind) → ArePrintable (ty_spelling t) }
+    ensures spelled { (text : List ℕ) (toks : List Token) (from : ℕ) (t : TyShape) (behind rest : List Symbol) → AreBytes text →
+        Reads ty (drop from (symbols_of text toks)) (Got t behind) → ArePrintable rest →
+        Spells (joined (ty_spelling t ++ rest)) (ty_spelling t ++ rest) }
+    ensures back { (text : List ℕ) (toks : List Token) (from : ℕ) (t : TyShape) (behind rest : List Symbol) (again : List Token) → AreBytes text →
+        Reads ty (drop from (symbols_of text toks)) (Got t behind) → ArePrintable rest → AreTokens (joined (ty_spelling t ++ rest)) again →
+        run_ty (length (symbols_of (joined (ty_spelling t ++ rest)) again)) (symbols_of (joined (ty_spelling t ++ rest)) again) ≡ Got t rest }
+{}
+
+/// Constants that were read are printed and read back: of what the tokens of a text of bytes spell from some token on the spelling is
+/// printable, so it is spelled by its printed form, whatever printable symbols follow, and the reader gives it again.
+pub fn read_constants_are_read_back()
+    ensures printable { (text : List ℕ) (toks : List Token) (from : ℕ) (c : ConstShape) (behind : List Symbol) → AreBytes text →
+        Reads const (drop from (symbols_of text toks)) (Got c behind) → ArePrintable (const_spelling c) }
+    ensures spelled { (text : List ℕ) (toks : List Token) (from : ℕ) (c : ConstShape) (behind rest : List Symbol) → AreBytes text →
+        Reads const (drop from (symbols_of text toks)) (Got c behind) → ArePrintable rest →
+        Spells (joined (const_spelling c ++ rest)) (const_spelling c ++ rest) }
+    ensures back { (text : List ℕ) (toks : List Token) (from : ℕ) (c : ConstShape) (behind rest : List Symbol) (again : List Token) → AreBytes text →
+        Reads const (drop from (symbols_of text toks)) (Got c behind) → ArePrintable rest → AreTokens (joined (const_spelling c ++ rest)) again →
+        run_const (length (symbols_of (joined (const_spelling c ++ rest)) again)) (symbols_of (joined (const_spelling c ++ rest)) again) ≡ Got c rest }
 {}
 
 #[cfg(test)]

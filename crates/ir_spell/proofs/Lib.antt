@@ -3,6 +3,7 @@ pub mod Joining
 pub mod Lines
 pub mod Names
 pub mod Numbers
+pub mod Readable
 pub mod SymbolTokens
 pub mod Walks
 pub mod WordTexts

@@ -247,3 +247,18 @@ rows_of (l ∷ ls) = l.row ++ rows_of ls
 abbrev pub AreIndented : List Line → Type 0
 AreIndented [] = Unit {0}
 AreIndented (l ∷ ls) = AreBlanks l.indent × AreIndented ls
+
+-- a symbol that a text of bytes can spell: its name or its string is bytes, and its number fits 128 bits with a sign
+abbrev pub IsReadable : Symbol → Type 0
+IsReadable (KeywordSymbol keyword) = Unit {0}
+IsReadable (LocalSymbol name) = AreBytes name
+IsReadable (GlobalSymbol name) = AreBytes name
+IsReadable (LabelSymbol name) = AreBytes name
+IsReadable (NumberSymbol number) = IsWithin128 number
+IsReadable (TextSymbol bytes) = AreBytes bytes
+IsReadable (MarkSymbol byte) = Unit {0}
+IsReadable OtherSymbol = Unit {0}
+
+abbrev pub AreReadable : List Symbol → Type 0
+AreReadable [] = Unit {0}
+AreReadable (s ∷ ss) = IsReadable s × AreReadable ss
