@@ -77,6 +77,3 @@ pub fn read_constants_are_read_back()
         Reads const (drop from (symbols_of text toks)) (Got c behind) → ArePrintable rest → AreTokens (joined (const_spelling c ++ rest)) again →
         run_const (length (symbols_of (joined (const_spelling c ++ rest)) again)) (symbols_of (joined (const_spelling c ++ rest)) again) ≡ Got c rest }
 {}
-
-#[cfg(test)]
-mod tests;

@@ -1,12 +1,16 @@
-//! Types and constants, read from tokens.
+//! Types and constants, read from tokens and printed.
 #![tactic(auto)]
 
 mod depth;
 mod error;
 mod reading;
 
+pub use const_printer::{print_const, print_ty};
+pub use depth::deep_end;
 pub use error::ReadError;
 pub use reading::{read_const, read_ty};
 
+#[cfg(test)]
+mod print_tests;
 #[cfg(test)]
 mod tests;

@@ -1,7 +1,7 @@
 //! Types and constants beside the texts that they must be printed as.
 
-use crate::{print_const, print_ty, push_const, push_ty};
-use ir_const::{read_const, read_ty};
+use crate::{print_const, print_ty, read_const, read_ty};
+use const_printer::{push_const, push_ty};
 use ir_lex::tokens;
 use ir_tree::names::Names;
 use std::alloc::Global;
