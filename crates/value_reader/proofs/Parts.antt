@@ -1,7 +1,8 @@
 -- Parts that are read one after another: the names grow in between, and what was read before keeps its shape.
-use Rattle.std.proofs.Common.{◌≡◌, ℕ, suc, ◌+◌, ◌≤◌, ◌&&◌, Bool, true, false, List, [], ◌∷◌, ◌++◌, length, drop, Option, sym, ◌∙◌, ap, subst, refl, arith}
-use Rattle.ir_grammar.specs.Reader.{Out, Got, Reader, heads, opens, run_one, run_map, run_seq, run_skip, run_or, run_up_to}
-use Rattle.ir_grammar.proofs.Loops.{UntilLeft, until_go_on}
+use Rattle.std.proofs.Common.{◌≡◌, ℕ, suc, ◌+◌, ◌≤◌, ◌&&◌, Bool, true, false, List, [], ◌∷◌, ◌++◌, length, map, drop, Option, sym, ◌∙◌, ap, subst, refl, arith}
+use Rattle.std.specs.List.{list_all}
+use Rattle.ir_grammar.specs.Reader.{Out, Got, Reader, heads, opens, run_one, run_map, run_seq, run_skip, run_or, run_up_to, run_many}
+use Rattle.ir_grammar.proofs.Loops.{UntilLeft, until_go_on, ManyLeft, many_start, many_go_on}
 use Rattle.ir_lex.specs.Symbols.{Symbol}
 use Rattle.ir_tree.specs.NameTable.{Grows}
 use Rattle.ir_tree.specs.ShapeOf.{ty_shape, name_shape, val_shape, ty_val_shape, phi_in_shape, case_shape}
@@ -10,7 +11,7 @@ use Rattle.ir_tree.specs.declared.types.Ty.{Ty}
 use Rattle.ir_tree.specs.declared.names.NameId.{NameId}
 use Rattle.ir_tree.specs.declared.module.Val.{Val}
 use Rattle.ir_tree.specs.declared.module.TyVal.{TyVal}
-use Rattle.ir_tree.proofs.Table.{grows_on}
+use Rattle.ir_tree.proofs.Table.{grows_same, grows_on}
 use Rattle.ir_tree.proofs.Grows.{and_both}
 use Rattle.ir_tree.proofs.GrowsModule.{name_shape-append, name_known-more, val_shape-append, val_known-more, ty_val_shape-append, ty_val_known-more, phi_in_shape-append, phi_in_known-more, case_shape-append, case_known-more}
 use Rattle.const_grammar.specs.Types.{run_ty}
@@ -109,6 +110,40 @@ pub until_named_next : {A V S C : Type 0} {shape : List (List ℕ) → A → V} 
 until_named_next {shape = shape} {known = known} {close = close} {item = item} {whole = whole} {front = front} {ss = ss} keeps m g e apart {new = new} grows x fits last count read le = record {
   left = subst (λ z. UntilLeft m close item whole z ss last) (shapes_more keeps grows front g.all_known x)
       (until_go_on m g.left e apart last (shape new x) read le);
+  grows = grows_on g.grows grows;
+  count = omega (arith, g.count);
+  all_known = known_more keeps grows front g.all_known x fits;
+}
+
+-- the invariant of a loop over items that each begin with p, of which at most n are still read
+pub record NamedMany {A V S : Type 0} (shape : List (List ℕ) → A → V) (known : ℕ → A → Bool) (n : ℕ) (p : S → Bool)
+    (item : Reader S V) (whole : Out S (List V)) (old names : List (List ℕ)) (front : List A) (ss : List S) (at next : ℕ) : Type 0 where
+  pub left : ManyLeft n p item whole (map (shape names) front) ss next
+  pub grows : Grows old names
+  pub count : length names + at ≤ length old + next
+  pub all_known : list_all (known (length names)) front ≡ true
+
+pub many_named_start : {A V S : Type 0} (shape : List (List ℕ) → A → V) (known : ℕ → A → Bool) (n : ℕ) (p : S → Bool)
+    (item : Reader S V) (names : List (List ℕ)) (ss : List S) (at : ℕ) → at ≤ length ss
+    → NamedMany shape known n p item (run_many n p item (drop at ss)) names names [] ss at at
+many_named_start shape known n p item names ss at le = record {
+  left = many_start n p item ss at le;
+  grows = grows_same names;
+  count = omega arith;
+  all_known = refl;
+}
+
+-- an item was read
+pub many_named_next : {A V S : Type 0} {shape : List (List ℕ) → A → V} {known : ℕ → A → Bool} {n : ℕ} {p : S → Bool}
+    {item : Reader S V} {whole : Out S (List V)} {old names : List (List ℕ)} {front : List A} {ss : List S} {at next : ℕ}
+    → Keeps shape known → (m : ℕ) → NamedMany shape known n p item whole old names front ss at next → n ≡ suc m
+    → opens p (drop next ss) ≡ true
+    → {new : List (List ℕ)} → Grows names new → (x : A) → known (length new) x ≡ true → (last : ℕ) → length new + next ≤ length names + last
+    → item (drop next ss) ≡ Got (shape new x) (drop last ss) → last ≤ length ss
+    → NamedMany shape known m p item whole old new (front ++ x ∷ []) ss at last
+many_named_next {shape = shape} {known = known} {p = p} {item = item} {whole = whole} {front = front} {ss = ss} keeps m g e there {new = new} grows x fits last count read le = record {
+  left = subst (λ z. ManyLeft m p item whole z ss last) (shapes_more keeps grows front g.all_known x)
+      (many_go_on m g.left e there last (shape new x) read le);
   grows = grows_on g.grows grows;
   count = omega (arith, g.count);
   all_known = known_more keeps grows front g.all_known x fits;
