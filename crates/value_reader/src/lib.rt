@@ -1,21 +1,63 @@
 //! Names, values and their types, read from tokens.
 #![tactic(auto)]
 
-ghost use Rattle.std.specs.Prelude.{◌≡◌, ◌+◌, ◌^◌, ◌<◌, ◌≤◌, length, drop, true, IfOk};
-ghost use Rattle.ir_grammar.specs.Reader.{run_one};
-ghost use Rattle.ir_grammar.specs.Code.{Gives};
+ghost use Rattle.std.specs.Prelude.{◌≡◌, ◌+◌, ◌^◌, ◌<◌, ◌≤◌, length, drop, true, false, IfOk, IfSome, MatchOption};
+ghost use Rattle.ir_grammar.specs.Reader.{Got, heads, opens, run_one};
+ghost use Rattle.ir_grammar.specs.Code.{Gives, Steps, Tries};
+ghost use Rattle.ir_lex.specs.Meaning.{name_of};
 ghost use Rattle.ir_lex.specs.Symbols.{symbols_of};
 ghost use Rattle.ir_tree.specs.NameTable.{Grows};
 ghost use Rattle.ir_tree.specs.ShapeOf.{name_shape, val_shape, ty_val_shape};
 ghost use Rattle.ir_tree.specs.Known.{name_known, val_known, ty_val_known};
-ghost use Rattle.inst_grammar.specs.Operands.{local_name, global_name, run_val, run_ty_val, run_more_ty_val, run_target};
+ghost use Rattle.inst_grammar.specs.Operands.{local_name, global_name, label, run_val, run_ty_val, run_more_ty_val, run_target};
 ghost use Rattle.inst_grammar.specs.Terminators.{run_more_target};
 
+use const_reader::const_at;
 use ir_grammar::Stop;
-use ir_lex::Token;
+use ir_lex::{Keyword, Token};
+use ir_symbols::{Meaning, mark_at, meaning_at};
 use ir_tree::module::{TyVal, Val};
 use ir_tree::names::{NameId, Names};
 use std::alloc::Global;
+use type_reader::{name_number, type_at};
+
+/// The Local at `at`, if one is there.
+fn local_token_at(text: &[u8], toks: &[Token], at: usize) -> Option<Token>
+    requires { at ≤ length (symbols_of text.now toks.now) }
+    ensures { MatchOption result (opens (heads local_name) (drop at (symbols_of text.now toks.now)) ≡ false)
+        (λ t. (opens (heads local_name) (drop at (symbols_of text.now toks.now)) ≡ true)
+        × (run_one local_name (drop at (symbols_of text.now toks.now))
+        ≡ Got (name_of text.now t) (drop (at + 1) (symbols_of text.now toks.now)))
+        × (at + 1 ≤ length (symbols_of text.now toks.now))) }
+{
+    match meaning_at(text, toks, at) {
+        Some(Meaning::Local(token)) => Some(token),
+        _ => None,
+    }
+}
+
+/// The number of the token behind `label`, where it is at `at`.
+pub fn after_label(text: &[u8], toks: &[Token], at: usize) -> Option<usize>
+    requires { at ≤ length (symbols_of text.now toks.now) }
+    ensures tries { Tries label (symbols_of text.now toks.now) result
+        (drop at (symbols_of text.now toks.now)) }
+    ensures next { IfSome result (λ n. n ≡ at + 1) }
+{
+    match meaning_at(text, toks, at) {
+        Some(Meaning::Keyword(Keyword::Label)) => Some(at + 1),
+        _ => None,
+    }
+}
+
+/// The number of the token behind `label`, which has to be at `at`.
+fn label_at(text: &[u8], toks: &[Token], at: usize) -> Result<usize, Stop>
+    requires { at ≤ length (symbols_of text.now toks.now) }
+    ensures steps { Steps (symbols_of text.now toks.now) result
+        (run_one label (drop at (symbols_of text.now toks.now))) }
+    ensures next { IfOk result (λ n. n ≡ at + 1) }
+{
+    after_label(text, toks, at).ok_or(Stop::WrongSymbol(at))
+}
 
 /// The name of the Local at `at`, and the number of the token behind it.
 pub fn local_at(
@@ -33,7 +75,10 @@ pub fn local_at(
     ensures reads { Gives (name_shape names.new) (symbols_of text.now toks.now) result
         (run_one local_name (drop at (symbols_of text.now toks.now))) }
 {
-    Err(Stop::OutOfMemory)
+    match local_token_at(text, toks, at) {
+        Some(token) => Ok((name_number(alloc, text, &token, names)?, at + 1)),
+        None => Err(Stop::WrongSymbol(at)),
+    }
 }
 
 /// The name of the Global at `at`, and the number of the token behind it.
@@ -52,7 +97,10 @@ pub fn global_at(
     ensures reads { Gives (name_shape names.new) (symbols_of text.now toks.now) result
         (run_one global_name (drop at (symbols_of text.now toks.now))) }
 {
-    Err(Stop::OutOfMemory)
+    match meaning_at(text, toks, at) {
+        Some(Meaning::Global(token)) => Ok((name_number(alloc, text, &token, names)?, at + 1)),
+        _ => Err(Stop::WrongSymbol(at)),
+    }
 }
 
 /// The value at `at`, and the number of the token behind it. At most `budget` tokens are read.
@@ -72,7 +120,16 @@ pub fn val_at(
     ensures reads { Gives (val_shape names.new) (symbols_of text.now toks.now) result
         (run_val budget (drop at (symbols_of text.now toks.now))) }
 {
-    Err(Stop::OutOfMemory)
+    match local_token_at(text, toks, at) {
+        Some(token) => {
+            let id = name_number(alloc, text, &token, names)?;
+            Ok((Val::Local(id), at + 1))
+        }
+        None => {
+            let (value, end) = const_at(alloc, text, toks, at, budget, names)?;
+            Ok((Val::Fixed(value), end))
+        }
+    }
 }
 
 /// The type and the value at `at`, and the number of the token behind them.
@@ -92,7 +149,9 @@ pub fn ty_val_at(
     ensures reads { Gives (ty_val_shape names.new) (symbols_of text.now toks.now) result
         (run_ty_val budget (drop at (symbols_of text.now toks.now))) }
 {
-    Err(Stop::OutOfMemory)
+    let (ty, next) = type_at(alloc, text, toks, at, budget, names)?;
+    let (val, end) = val_at(alloc, text, toks, next, budget, names)?;
+    Ok((TyVal { ty, val }, end))
 }
 
 /// The type and the value behind the comma at `at`, and the number of the token behind them.
@@ -112,7 +171,8 @@ pub fn more_ty_val_at(
     ensures reads { Gives (ty_val_shape names.new) (symbols_of text.now toks.now) result
         (run_more_ty_val budget (drop at (symbols_of text.now toks.now))) }
 {
-    Err(Stop::OutOfMemory)
+    let next = mark_at(text, toks, at, b',')?;
+    ty_val_at(alloc, text, toks, next, budget, names)
 }
 
 /// The name of the block behind `label` at `at`, and the number of the token behind it.
@@ -131,7 +191,8 @@ pub fn target_at(
     ensures reads { Gives (name_shape names.new) (symbols_of text.now toks.now) result
         (run_target (drop at (symbols_of text.now toks.now))) }
 {
-    Err(Stop::OutOfMemory)
+    let next = label_at(text, toks, at)?;
+    local_at(alloc, text, toks, next, names)
 }
 
 /// The name of the block behind a comma and `label` at `at`, and the number of the token behind it.
@@ -150,5 +211,6 @@ pub fn more_target_at(
     ensures reads { Gives (name_shape names.new) (symbols_of text.now toks.now) result
         (run_more_target (drop at (symbols_of text.now toks.now))) }
 {
-    Err(Stop::OutOfMemory)
+    let next = mark_at(text, toks, at, b',')?;
+    target_at(alloc, text, toks, next, names)
 }
