@@ -8,6 +8,7 @@ ghost use Rattle.ir_parse.specs.Answers.{Parses};
 ghost use Rattle.ir_parse.specs.Spots.{AreSpots};
 
 mod error;
+mod functions;
 
 pub use error::ParseError;
 use ir_lex::Token;
