@@ -62,42 +62,42 @@ ty_val_kept g x k = kept_one ty_vals_keep g x k
 
 -- a part is read under the old table, and the next ones under the new one
 pub seq_read : {S A V W : Type 0} {shape : List (List ℕ) → A → V} {known : ℕ → A → Bool} → Keeps shape known → {old new : List (List ℕ)} → Grows old new
-    → (first : Reader S V) (second : Reader S W) {ts q rest : List S} (x : A) {w : W} → known (length old) x ≡ true
+    → (first : Reader S V) (second : Reader S W) (ts : List S) {q rest : List S} (x : A) {w : W} → known (length old) x ≡ true
     → first ts ≡ Got (shape old x) q → second q ≡ Got w rest
     → run_seq first second ts ≡ Got (shape new x, w) rest
-seq_read {V = V} {W = W} {shape = shape} keeps {new = new} g first second {rest = rest} x {w = w} k e f =
+seq_read {V = V} {W = W} {shape = shape} keeps {new = new} g first second ts {rest = rest} x {w = w} k e f =
     let pair : V → V × W = λ v. (v, w) in
     rw (e, f) (ap (λ v. Got (pair v) rest) (kept_one keeps g x k))
 
 -- the same where no name stands in the first part
-pub seq_plain : {S V W : Type 0} (first : Reader S V) (second : Reader S W) {ts q rest : List S} {v : V} {w : W}
+pub seq_plain : {S V W : Type 0} (first : Reader S V) (second : Reader S W) (ts : List S) {q rest : List S} {v : V} {w : W}
     → first ts ≡ Got v q → second q ≡ Got w rest → run_seq first second ts ≡ Got (v, w) rest
-seq_plain first second e f = rw (e, f) refl
+seq_plain first second ts e f = rw (e, f) refl
 
-pub map_read : {S V W : Type 0} (h : V → W) (r : Reader S V) {ts rest : List S} {v : V} → r ts ≡ Got v rest → run_map h r ts ≡ Got (h v) rest
-map_read h r e = rw e refl
+pub map_read : {S V W : Type 0} (h : V → W) (r : Reader S V) (ts : List S) {rest : List S} {v : V} → r ts ≡ Got v rest → run_map h r ts ≡ Got (h v) rest
+map_read h r ts e = rw e refl
 
 pub skip_read : {S K V : Type 0} (f : S → Option K) (r : Reader S V) (ts : List S) {q rest : List S} {k : K} {v : V}
     → run_one f ts ≡ Got k q → r q ≡ Got v rest → run_skip f r ts ≡ Got v rest
 skip_read f r ts e g = rw (e, g) refl
 
-pub up_to_read : {S K V : Type 0} (close : S → Option K) (r : Reader S V) {ts q rest : List S} {v : V} {k : K}
+pub up_to_read : {S K V : Type 0} (close : S → Option K) (r : Reader S V) (ts : List S) {q rest : List S} {v : V} {k : K}
     → r ts ≡ Got v q → run_one close q ≡ Got k rest → run_up_to close r ts ≡ Got v rest
-up_to_read close r e g = rw (e, g) refl
+up_to_read close r ts e g = rw (e, g) refl
 
-pub or_first_read : {S V : Type 0} (p : S → Bool) (first second : Reader S V) {ts rest : List S} {v : V}
+pub or_first_read : {S V : Type 0} (p : S → Bool) (first second : Reader S V) (ts : List S) {rest : List S} {v : V}
     → opens p ts ≡ true → first ts ≡ Got v rest → run_or p first second ts ≡ Got v rest
-or_first_read p first second o e = rw (o, e) refl
+or_first_read p first second ts o e = rw (o, e) refl
 
-pub or_second_read : {S V : Type 0} (p : S → Bool) (first second : Reader S V) {ts rest : List S} {v : V}
+pub or_second_read : {S V : Type 0} (p : S → Bool) (first second : Reader S V) (ts : List S) {rest : List S} {v : V}
     → opens p ts ≡ false → second ts ≡ Got v rest → run_or p first second ts ≡ Got v rest
-or_second_read p first second o e = rw (o, e) refl
+or_second_read p first second ts o e = rw (o, e) refl
 
 -- a type and a value that were read
 pub ty_val_read : {old new : List (List ℕ)} → Grows old new → (n : ℕ) (ts : List Symbol) {q rest : List Symbol} (t : Ty) (v : Val) → ty_known (length old) t ≡ true
     → run_ty n ts ≡ Got (ty_shape old t) q → run_val n q ≡ Got (val_shape new v) rest
     → run_ty_val n ts ≡ Got (ty_val_shape new (record { ty = t; val = v })) rest
-ty_val_read g n ts t v k e f = map_read ty_val_of (run_seq (run_ty n) (run_val n)) (seq_read tys_keep g (run_ty n) (run_val n) t k e f)
+ty_val_read g n ts t v k e f = map_read ty_val_of (run_seq (run_ty n) (run_val n)) ts (seq_read tys_keep g (run_ty n) (run_val n) ts t k e f)
 
 -- a loop up to a closing symbol over items with no separators: an item was read
 pub until_named_next : {A V S C : Type 0} {shape : List (List ℕ) → A → V} {known : ℕ → A → Bool} {n : ℕ} {close : S → Option C}
