@@ -1,2 +1,3 @@
 pub mod Spots
 pub mod Shapes
+pub mod Lines

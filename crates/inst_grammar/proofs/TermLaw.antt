@@ -76,10 +76,10 @@ void_spelled : ty (KeywordSymbol Void ∷ []) void
 void_spelled = (recursive_in ty_rule regular_ty).at (KeywordSymbol Void ∷ []) void (KeywordSymbol Void, [], WholeType void, refl, refl, (refl, refl))
 
 -- what follows `ret`, so that the first symbol decides: after `void` there may be a value
-abbrev void_return : Lang Symbol BodyShape
+abbrev pub void_return : Lang Symbol BodyShape
 void_return = skip void_word (map_to return_of (maybe val))
 
-abbrev decided : Lang Symbol BodyShape
+abbrev pub decided : Lang Symbol BodyShape
 decided = or_else void_return (map_to return_value ty_val)
 
 -- a type and a value that begin with `void` are `void` and a value
@@ -109,7 +109,7 @@ void_into ts w t q k (Some v) cut known word e =
     let head : t ≡ KeywordSymbol Void = void_is t (ap is_some known) in
     inr (record { ty = void; val = v }, ((void, v), (KeywordSymbol Void ∷ [], q, cut ∙ ap (λ z. z ∷ q) head, void_spelled, word), refl), e)
 
-ret_into : (ts : List Symbol) (w : BodyShape) → decided ts w → term_rest RetWord ts w
+pub ret_into : (ts : List Symbol) (w : BodyShape) → decided ts w → term_rest RetWord ts w
 ret_into ts w (inl u) = void_into ts w u.0 u.1 u.2 u.5.0 u.3 u.4 u.5.1 u.5.2
 ret_into ts w (inr u) = inr u
 

@@ -19,7 +19,7 @@ or_right false b e = e
 abbrev pub many_step : {S V : Type 0} → Lang S V → Lang S (List V) → Lang S (List V)
 many_step a rest = or_else (map_to cons (seq a rest)) (empty [])
 
-many_into : {S V : Type 0} (a : Lang S V) (ts : List S) (v : List V) → many_step a (many a) ts v → many a ts v
+pub many_into : {S V : Type 0} (a : Lang S V) (ts : List S) (v : List V) → many_step a (many a) ts v → many a ts v
 many_into a ts [] (inl u) = cc
 many_into a ts [] (inr u) = u.0
 many_into a ts (v ∷ vs) (inl u) =
@@ -86,7 +86,7 @@ good_many {a = a} {p = p} {s = s} (suc n) starts apart inside held g =
 abbrev pub until_step : {S C V : Type 0} → (S → Option C) → Lang S V → Lang S (List V) → Lang S (List V)
 until_step close item rest = or_else (skip close (empty [])) (map_to cons (seq item rest))
 
-until_into : {S C V : Type 0} (close : S → Option C) (item : Lang S V) (ts : List S) (v : List V)
+pub until_into : {S C V : Type 0} (close : S → Option C) (item : Lang S V) (ts : List S) (v : List V)
     → until_step close item (until close item) ts v → until close item ts v
 until_into close item ts v (inl u) =
     (([], u.2), ([], ts, refl, refl, (u.0, u.1, u.2, u.3, u.4, (u.5.0, refl))), u.5.1)
@@ -185,7 +185,7 @@ items_into_at separator close item ts p q v y ys cut word (inr u) e =
       e ∙ ap (λ z. y ∷ z) names,
     )
 
-items_into : {S K C V : Type 0} (separator : S → Option K) (close : S → Option C) (item : Lang S V) (ts : List S) (v : List V)
+pub items_into : {S K C V : Type 0} (separator : S → Option K) (close : S → Option C) (item : Lang S V) (ts : List S) (v : List V)
     → items_step separator close item (items_up_to separator close item) ts v → items_up_to separator close item ts v
 items_into separator close item ts v u =
     items_into_at separator close item ts u.1.0 u.1.1 v u.0.0 u.0.1 u.1.2 u.1.3 u.1.4 u.2

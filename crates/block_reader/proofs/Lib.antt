@@ -1,0 +1,4 @@
+pub mod LineByLine
+pub mod Sound
+pub mod SoundLines
+pub mod Pieces
