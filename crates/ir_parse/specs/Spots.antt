@@ -2,7 +2,7 @@
 -- of the first token of its piece.
 use Rattle.std.specs.Prelude.{◌≡◌, ℕ, List, [], ◌∷◌, ◌++◌, map}
 use Rattle.ir_grammar.specs.Language.{mark, one, skip, up_to}
-use Rattle.ir_tree.specs.Shape.{FunctionShape, ModuleShape}
+use Rattle.ir_tree.specs.Shape.{BlockShape, FunctionShape, ModuleShape}
 use Rattle.ir_tree.specs.declared.parsed.Spots.{Spots}
 use Rattle.ir_lex.specs.Symbols.{symbols_of}
 use Rattle.ir_lex.specs.declared.token.Token.{Token}
@@ -16,16 +16,22 @@ pub record Place : Type 0 where
   pub spot : ℕ
   pub lines : List (List ℕ)
 
--- the tokens are `define`, the signature and `{`, then the blocks, whose lines begin at the spots, and `}`
-pub record IsFunctionAt (text : List ℕ) (toks : List Token) (f : FunctionShape) (spots : List (List ℕ)) : Type 0 where
-  pub head : List Token
+-- the tokens are blocks, whose lines begin at the spots, and then `}`
+pub record IsBodyAt (text : List ℕ) (toks : List Token) (vs : List BlockShape) (spots : List (List ℕ)) : Type 0 where
   pub body : List Token
   pub close : List Token
-  pub cut : toks ≡ head ++ (body ++ close)
+  pub cut : toks ≡ body ++ close
+  pub blocks : InPieces (IsBlockAt text) body vs spots
+  pub closed : one (punct 125) (symbols_of text close) mark
+
+-- the tokens are `define`, the signature and `{`, and then the body
+pub record IsFunctionAt (text : List ℕ) (toks : List Token) (f : FunctionShape) (spots : List (List ℕ)) : Type 0 where
+  pub head : List Token
+  pub rest : List Token
+  pub cut : toks ≡ head ++ rest
   pub signed : Signature
   pub opened : skip define_word (up_to (punct 123) signature) (symbols_of text head) signed
-  pub blocks : InPieces (IsBlockAt text) body f.blocks spots
-  pub closed : one (punct 125) (symbols_of text close) mark
+  pub body : IsBodyAt text rest f.blocks spots
 
 -- a function's lines begin there; another item has none
 abbrev pub HasLinesAt : List ℕ → List Token → ItemShape → List (List ℕ) → Type 0
