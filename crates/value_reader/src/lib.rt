@@ -171,8 +171,8 @@ pub fn more_ty_val_at(
     ensures reads { Gives (ty_val_shape names.new) (symbols_of text.now toks.now) result
         (run_more_ty_val budget (drop at (symbols_of text.now toks.now))) }
 {
-    let next = mark_at(text, toks, at, b',')?;
-    ty_val_at(alloc, text, toks, next, budget, names)
+    let after_comma = mark_at(text, toks, at, b',')?;
+    ty_val_at(alloc, text, toks, after_comma, budget, names)
 }
 
 /// The name of the block behind `label` at `at`, and the number of the token behind it.
