@@ -27,7 +27,7 @@ sound_ty_rest n r g ArrayOpen = sound_map _ (sound_up_to (punct 93) (sound_seq (
 sound_ty_rest n r g FieldsOpen = sound_map _ (sound_listed n (punct 44) (punct 125) g)
 sound_ty_rest n r g PackedOpen = sound_skip (punct 123) (sound_map _ (sound_up_to (punct 62) (sound_listed n (punct 44) (punct 125) g)))
 
-sound_ty : (n : ℕ) → Sound ty (run_ty n)
+pub sound_ty : (n : ℕ) → Sound ty (run_ty n)
 sound_ty = sound_recursive ty_rule run_ty_rule regular_ty (λ n r g. sound_pick ty_head (sound_ty_rest n r g))
 
 -- constants
@@ -49,7 +49,7 @@ sound_const_rest n r g ValuesOpen = sound_map _ (sound_listed n (punct 44) (punc
 sound_const_rest n r g PackedValuesOpen = sound_skip (punct 123) (sound_map _ (sound_up_to (punct 62) (sound_listed n (punct 44) (punct 125) (sound_typed n r g))))
 sound_const_rest n r g AddressOpen = sound_map _ (sound_seq (sound_flags n) (sound_skip (punct 40) (sound_operands n r g)))
 
-sound_const : (n : ℕ) → Sound const (run_const n)
+pub sound_const : (n : ℕ) → Sound const (run_const n)
 sound_const = sound_recursive const_rule run_const_rule regular_const (λ n r g. sound_pick const_head (sound_const_rest n r g))
 
 -- operands
