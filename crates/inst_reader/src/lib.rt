@@ -1,6 +1,10 @@
 //! Phis and instructions, read from tokens.
 #![tactic(auto)]
 
+mod arithmetic;
+mod heads;
+mod operands;
+
 ghost use Rattle.std.specs.Prelude.{◌≡◌, ◌+◌, ◌^◌, ◌<◌, ◌≤◌, length, drop, true, IfOk};
 ghost use Rattle.ir_grammar.specs.Code.{Gives};
 ghost use Rattle.ir_lex.specs.Symbols.{symbols_of};

@@ -1,0 +1,2 @@
+pub mod WrapFlags
+pub mod Parts
