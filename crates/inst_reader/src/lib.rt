@@ -3,6 +3,7 @@
 
 mod arithmetic;
 mod heads;
+mod memory;
 mod operands;
 
 ghost use Rattle.std.specs.Prelude.{◌≡◌, ◌+◌, ◌^◌, ◌<◌, ◌≤◌, length, drop, true, IfOk};
