@@ -85,7 +85,11 @@ pub fn plain_at(
     ensures reads { Gives (body_shape names.new) (symbols_of text.now toks.now) result
         (run_plain_binary budget operation (drop at (symbols_of text.now toks.now))) }
 {
-    let flags = Flags { nuw: false, nsw: false, exact: false };
+    let flags = Flags {
+        nuw: false,
+        nsw: false,
+        exact: false,
+    };
     let (operands, end) = two_values_at(alloc, text, toks, at, budget, names)?;
     let TwoValues { ty, left, right } = operands;
     Ok((Body::Binary(operation, flags, ty, left, right), end))

@@ -204,7 +204,11 @@ pub fn wrap_flags_at(text: &[u8], toks: &[Token], at: usize, budget: usize) -> (
     ensures within { result.1 ≤ length (symbols_of text.now toks.now) }
     ensures next { at ≤ result.1 }
 {
-    let mut flags = Flags { nuw: false, nsw: false, exact: false };
+    let mut flags = Flags {
+        nuw: false,
+        nsw: false,
+        exact: false,
+    };
     let mut next = at;
     for _ in 0..budget {
         let Some(nuw) = wrap_flag_at(text, toks, next) else {
@@ -226,8 +230,22 @@ pub fn exact_at(text: &[u8], toks: &[Token], at: usize) -> (Flags, usize)
 {
     match meaning_at(text, toks, at) {
         Some(Meaning::Keyword(Keyword::Exact)) => {
-            (Flags { nuw: false, nsw: false, exact: true }, at + 1)
+            (
+                Flags {
+                    nuw: false,
+                    nsw: false,
+                    exact: true,
+                },
+                at + 1,
+            )
         }
-        _ => (Flags { nuw: false, nsw: false, exact: false }, at),
+        _ => (
+            Flags {
+                nuw: false,
+                nsw: false,
+                exact: false,
+            },
+            at,
+        ),
     }
 }

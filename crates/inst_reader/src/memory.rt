@@ -189,7 +189,10 @@ pub fn call_at(
     let (callee, next) = global_at(alloc, text, toks, next, names)?;
     let next = mark_at(text, toks, next, b'(')?;
     let (arguments, end) = arguments_at(alloc, text, toks, next, budget, names)?;
-    Ok((Body::Call(ty, Val::Fixed(Const::Global(callee)), arguments), end))
+    Ok((
+        Body::Call(ty, Val::Fixed(Const::Global(callee)), arguments),
+        end,
+    ))
 }
 
 /// The types and values from `at` on, if any, up to a `)`.

@@ -2,7 +2,6 @@ use Rattle.std.proofs.Common.{drop}
 use Rattle.ir_lex.specs.Symbols.{symbols_of}
 use Rattle.ir_grammar.specs.Reader.{run_skip}
 use Rattle.ir_symbols.specs.Marks.{punct}
-use Rattle.ir_tree.specs.ShapeOf.{val_shape}
 use Rattle.const_grammar.specs.Types.{run_ty}
 use Rattle.inst_grammar.specs.Operands.{run_val}
 use Rattle.type_reader.proofs.NamedItems.{tys_keep}
