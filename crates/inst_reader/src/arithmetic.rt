@@ -8,11 +8,11 @@ ghost use Rattle.ir_tree.specs.ShapeOf.{body_shape};
 ghost use Rattle.ir_tree.specs.Known.{body_known};
 ghost use Rattle.inst_grammar.specs.Arithmetic.{run_wrapping_binary, run_exact_binary, run_plain_binary, run_icmp, run_select, run_extend, run_trunc, run_freeze};
 
-use crate::heads::{exact_at, predicate_at, wrap_flags_at};
+use crate::heads::{NO_FLAGS, exact_at, predicate_at, wrap_flags_at};
 use crate::operands::{Conversion, TwoValues, conversion_at, two_values_at};
 use ir_grammar::Stop;
 use ir_lex::Token;
-use ir_tree::module::{Bin, Body, Conv, Flags};
+use ir_tree::module::{Bin, Body, Conv};
 use ir_tree::names::Names;
 use std::alloc::Global;
 use type_reader::type_at;
@@ -85,14 +85,9 @@ pub fn plain_at(
     ensures reads { Gives (body_shape names.new) (symbols_of text.now toks.now) result
         (run_plain_binary budget operation (drop at (symbols_of text.now toks.now))) }
 {
-    let flags = Flags {
-        nuw: false,
-        nsw: false,
-        exact: false,
-    };
     let (operands, end) = two_values_at(alloc, text, toks, at, budget, names)?;
     let TwoValues { ty, left, right } = operands;
-    Ok((Body::Binary(operation, flags, ty, left, right), end))
+    Ok((Body::Binary(operation, NO_FLAGS, ty, left, right), end))
 }
 
 /// What follows `icmp`, at `at`, and the number of the token behind it.

@@ -45,6 +45,13 @@ pub enum Head {
     Call,
 }
 
+/// No flag.
+pub const NO_FLAGS: Flags = Flags {
+    nuw: false,
+    nsw: false,
+    exact: false,
+};
+
 /// The head that a word is.
 fn head_of(word: Keyword) -> Option<Head>
     ensures { option_map head_from result ≡ inst_head (KeywordSymbol word) }
@@ -204,11 +211,7 @@ pub fn wrap_flags_at(text: &[u8], toks: &[Token], at: usize, budget: usize) -> (
     ensures within { result.1 ≤ length (symbols_of text.now toks.now) }
     ensures next { at ≤ result.1 }
 {
-    let mut flags = Flags {
-        nuw: false,
-        nsw: false,
-        exact: false,
-    };
+    let mut flags = NO_FLAGS;
     let mut next = at;
     for _ in 0..budget {
         let Some(nuw) = wrap_flag_at(text, toks, next) else {
@@ -229,23 +232,13 @@ pub fn exact_at(text: &[u8], toks: &[Token], at: usize) -> (Flags, usize)
     ensures next { at ≤ result.1 }
 {
     match meaning_at(text, toks, at) {
-        Some(Meaning::Keyword(Keyword::Exact)) => {
-            (
-                Flags {
-                    nuw: false,
-                    nsw: false,
-                    exact: true,
-                },
-                at + 1,
-            )
-        }
-        _ => (
+        Some(Meaning::Keyword(Keyword::Exact)) => (
             Flags {
-                nuw: false,
-                nsw: false,
-                exact: false,
+                exact: true,
+                ..NO_FLAGS
             },
-            at,
+            at + 1,
         ),
+        _ => (NO_FLAGS, at),
     }
 }
