@@ -5,3 +5,4 @@ mod constants;
 mod heads;
 
 pub use constants::{const_at, typed_at};
+pub use heads::flags_at;

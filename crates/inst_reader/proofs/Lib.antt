@@ -1,0 +1,4 @@
+pub mod WrapFlags
+pub mod Parts
+pub mod Counted
+pub mod Callee
