@@ -9,6 +9,9 @@ ghost use Rattle.module_grammar.specs.Blocks.{run_lines, run_block, run_first_bl
 ghost use Rattle.block_reader.specs.Shapes.{lines_shape, lines_known, labelled_shape, labelled_known, entry_shape, entry_known};
 ghost use Rattle.block_reader.specs.Spots.{InPieces, IsLineAt, IsBlockAt, IsEntryAt};
 
+mod ahead;
+mod single;
+
 use ir_grammar::Stop;
 use ir_lex::Token;
 use ir_tree::module::{Block, Inst};
