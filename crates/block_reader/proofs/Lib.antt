@@ -4,3 +4,4 @@ pub mod SoundLines
 pub mod Pieces
 pub mod MarksAhead
 pub mod LineParts
+pub mod LinesSoFar
