@@ -1,26 +1,31 @@
 -- The lines so far: their names are known, and the tokens up to the next line are theirs.
-use Rattle.std.proofs.Common.{◌≡◌, ℕ, ◌+◌, ◌<◌, ◌≤◌, Bool, true, List, [], ◌∷◌, ◌++◌, length, map, drop, None, inl, inr, refl, sym, ◌∙◌, ap, subst, arith}
+use Rattle.std.proofs.Common.{◌≡◌, ℕ, suc, false, ◌+◌, ◌<◌, ◌≤◌, Bool, true, List, [], ◌∷◌, ◌++◌, length, map, drop, None, inl, inr, refl, sym, ◌∙◌, ap, subst, arith}
 use Rattle.std.specs.List.{slice_range, list_all}
-use Rattle.ir_grammar.specs.Reader.{Got, heads}
+use Rattle.ir_grammar.specs.Reader.{Got, heads, opens}
+use Rattle.ir_grammar.specs.Code.{Stops}
+use Rattle.ir_grammar.specs.declared.Stop.{Stop}
+use Rattle.ir_grammar.specs.declared.Stop.TheVariants.{WrongSymbol, OutOfMemory}
 use Rattle.ir_grammar.proofs.Good.{Starts}
 use Rattle.ir_grammar.proofs.Sides.{starts_pick, starts_map, starts_maybe, starts_more}
 use Rattle.ir_lex.specs.Symbols.{Symbol, symbols_of}
 use Rattle.ir_lex.specs.declared.token.Token.{Token}
 use Rattle.ir_tree.specs.NameTable.{Grows}
 use Rattle.ir_tree.specs.Shape.{BodyShape, InstShape}
-use Rattle.ir_tree.specs.ShapeOf.{inst_shape}
+use Rattle.ir_tree.specs.ShapeOf.{body_shape, inst_shape}
 use Rattle.ir_tree.specs.Known.{inst_known}
 use Rattle.ir_tree.specs.declared.module.Inst.{Inst}
+use Rattle.ir_tree.specs.declared.module.Body.{Body}
 use Rattle.ir_tree.proofs.GrowsModule.{inst_shape-append, inst_known-more}
 use Rattle.ir_tree.proofs.Table.{grows_on, grows_same}
 use Rattle.type_reader.proofs.NamedItems.{Keeps, known_more, shapes_more, grows_length}
 use Rattle.inst_grammar.specs.Terminators.{term_head, term, run_term}
-use Rattle.module_grammar.specs.Blocks.{line_of, phi_line, inst_line, run_inst_line}
+use Rattle.module_grammar.specs.Blocks.{line_of, phi_line, inst_line, begins_inst, run_inst_line, run_last_line, run_after_phis}
 use Rattle.module_grammar.proofs.BlockLaw.{starts_result, starts_phi, starts_inst_line}
-use Rattle.block_reader.specs.Lines.{run_phi_line, AreLinesAt}
+use Rattle.block_reader.specs.Lines.{run_phi_line, lines_behind, AreLinesAt}
 use Rattle.block_reader.specs.Spots.{start_of, InPieces, IsLineAt}
 use Rattle.block_reader.specs.Shapes.{lines_shape, lines_known}
 use Rattle.block_reader.specs.declared.Lines.{Lines}
+use Rattle.block_reader.proofs.LineByLine.{rest_by, rest_next, rest_wrong, rest_last, rest_end}
 use Rattle.block_reader.proofs.Sound.{Sound}
 use Rattle.block_reader.proofs.SoundLines.{sound_phi_line, sound_inst_line, sound_term}
 use Rattle.block_reader.proofs.Pieces.{pieces_more, slices_joined, no_slice, slice_spelled, goes_past, start_of_slice}
@@ -96,3 +101,86 @@ so_far_more {text = text} {toks = toks} {new = new} {lines = lines} {next = next
       subst (λ z. AreLinesAt text toks from past (map (inst_shape new) z) more.spots.items) (sym insts)
       (subst (λ z. AreLinesAt text toks from past (map (inst_shape new) (lines.insts.items ++ x ∷ [])) z) (sym spots) whole);
 }
+
+pub so_far_start : (text : List ℕ) (toks : List Token) (names : List (List ℕ)) (lines : Lines) (at : ℕ) → at ≤ length (symbols_of text toks) → lines_known (length names) lines ≡ true
+    → SoFar text toks (λ from. AreLinesAt text toks from at (lines_shape names lines) lines.spots.items) names names lines at at
+so_far_start text toks names lines at h k = record {
+  grows = grows_same names;
+  count = omega arith;
+  within = h;
+  all_known = k;
+  pieces = λ from s. s;
+}
+
+-- before the first line
+pub so_far_none : (text : List ℕ) (toks : List Token) (names : List (List ℕ)) (lines : Lines) (at : ℕ) → at ≤ length (symbols_of text toks)
+    → lines.insts.items ≡ [] → lines.spots.items ≡ [] → SoFar text toks (λ from. from ≡ at) names names lines at at
+so_far_none text toks names lines at h insts spots = record {
+  grows = grows_same names;
+  count = omega arith;
+  within = h;
+  all_known = rw insts refl;
+  pieces = λ from s. subst (λ z. AreLinesAt text toks z at (lines_shape names lines) lines.spots.items) (sym s) (omega arith, rw (insts, spots) (no_slice toks at));
+}
+
+-- the shapes of the lines with one more
+pub front_more : {old new : List (List ℕ)} → Grows old new → (lines more : Lines) (x : Inst) → lines_known (length old) lines ≡ true
+    → more.insts.items ≡ lines.insts.items ++ x ∷ [] → lines_shape old lines ++ inst_shape new x ∷ [] ≡ lines_shape new more
+front_more {new = new} g lines more x h insts = shapes_more insts_keep g lines.insts.items h x ∙ ap (map (inst_shape new)) (sym insts)
+
+-- the terminator was read
+pub last_read : {old new : List (List ℕ)} → Grows old new → (n : ℕ) (ts rest : List Symbol) (lines more : Lines) (body : Body) → lines_known (length old) lines ≡ true
+    → run_term n ts ≡ Got (body_shape new body) rest → more.insts.items ≡ lines.insts.items ++ (record { result = None; body = body }) ∷ []
+    → lines_behind (lines_shape old lines) (run_last_line n ts) ≡ Got (lines_shape new more) rest
+last_read {old = old} {new = new} g n ts rest lines more body h e insts =
+    rw e (ap (λ z. Got z rest) (front_more g lines more (record { result = None; body = body }) h insts))
+
+-- the lines so far and the instructions to come, at most m of them, and the terminator are the whole
+pub record InstsLeft (text : List ℕ) (toks : List Token) (n m : ℕ) (old names : List (List ℕ)) (before lines : Lines) (at next : ℕ) : Type 0 where
+  pub so_far : SoFar text toks (λ from. AreLinesAt text toks from at (lines_shape old before) before.spots.items) old names lines at next
+  pub same : lines_behind (lines_shape old before) (run_after_phis n (drop at (symbols_of text toks)))
+      ≡ lines_behind (lines_shape names lines) (rest_by m begins_inst (run_inst_line n) (run_last_line n) (drop next (symbols_of text toks)))
+
+pub insts_start : (text : List ℕ) (toks : List Token) (n : ℕ) (names : List (List ℕ)) (lines : Lines) (at : ℕ) → at ≤ length (symbols_of text toks)
+    → lines_known (length names) lines ≡ true → InstsLeft text toks n n names names lines lines at at
+insts_start text toks n names lines at h k = record { so_far = so_far_start text toks names lines at h k; same = refl }
+
+pub insts_go_on : {text : List ℕ} {toks : List Token} {n m : ℕ} {old names new : List (List ℕ)} {before lines : Lines} {at next : ℕ} (k : ℕ)
+    → InstsLeft text toks n m old names before lines at next → m ≡ suc k → opens begins_inst (drop next (symbols_of text toks)) ≡ true
+    → Grows names new → (x : Inst) → inst_known (length new) x ≡ true → (past : ℕ) → length new + next ≤ length names + past
+    → run_inst_line n (drop next (symbols_of text toks)) ≡ Got (inst_shape new x) (drop past (symbols_of text toks)) → past ≤ length (symbols_of text toks)
+    → (more : Lines) → more.insts.items ≡ lines.insts.items ++ x ∷ [] → more.spots.items ≡ lines.spots.items ++ start_of (drop next toks) ∷ []
+    → InstsLeft text toks n k old new before more at past
+insts_go_on {text = text} {toks = toks} {n = n} {names = names} {new = new} {lines = lines} {next = next} k g e begins grows x fits past count read le more insts spots = record {
+  so_far = so_far_more g.so_far grows x fits past count le (inst_between n text toks next past (inst_shape new x) g.so_far.within le read) more insts spots;
+  same = g.same ∙ ap (λ z. lines_behind (lines_shape names lines) (rest_by z begins_inst (run_inst_line n) (run_last_line n) (drop next (symbols_of text toks)))) e
+      ∙ rest_next k begins_inst (run_inst_line n) (run_last_line n) (lines_shape names lines) (drop next (symbols_of text toks)) (drop past (symbols_of text toks)) (inst_shape new x) begins read
+      ∙ ap (λ z. lines_behind z (rest_by k begins_inst (run_inst_line n) (run_last_line n) (drop past (symbols_of text toks)))) (front_more grows lines more x g.so_far.all_known insts);
+}
+
+pub insts_stop : {text : List ℕ} {toks : List Token} {n m : ℕ} {old names : List (List ℕ)} {before lines : Lines} {at next : ℕ} (k : ℕ)
+    → InstsLeft text toks n m old names before lines at next → m ≡ suc k → opens begins_inst (drop next (symbols_of text toks)) ≡ true
+    → (e : Stop) → Stops (symbols_of text toks) e (run_inst_line n (drop next (symbols_of text toks)))
+    → Stops (symbols_of text toks) e (lines_behind (lines_shape old before) (run_after_phis n (drop at (symbols_of text toks))))
+insts_stop {text = text} {toks = toks} {n = n} {names = names} {lines = lines} {next = next} k g e begins (WrongSymbol j) d = (
+  g.same ∙ ap (λ z. lines_behind (lines_shape names lines) (rest_by z begins_inst (run_inst_line n) (run_last_line n) (drop next (symbols_of text toks)))) e
+      ∙ rest_wrong k begins_inst (run_inst_line n) (run_last_line n) (lines_shape names lines) (drop next (symbols_of text toks)) (drop j (symbols_of text toks)) begins d.0,
+  d.1,
+)
+insts_stop k g e begins OutOfMemory d = tt
+
+-- the terminator comes next
+pub insts_last : {text : List ℕ} {toks : List Token} {n m : ℕ} {old names : List (List ℕ)} {before lines : Lines} {at next : ℕ}
+    → InstsLeft text toks n m old names before lines at next → opens begins_inst (drop next (symbols_of text toks)) ≡ false
+    → lines_behind (lines_shape names lines) (run_last_line n (drop next (symbols_of text toks)))
+    ≡ lines_behind (lines_shape old before) (run_after_phis n (drop at (symbols_of text toks)))
+insts_last {text = text} {toks = toks} {n = n} {m = m} {names = names} {lines = lines} {next = next} g begins =
+    sym (g.same ∙ ap (lines_behind (lines_shape names lines)) (rest_last m begins_inst (run_inst_line n) (run_last_line n) (drop next (symbols_of text toks)) begins))
+
+pub insts_end : {text : List ℕ} {toks : List Token} {n m : ℕ} {old names : List (List ℕ)} {before lines : Lines} {at next : ℕ}
+    → InstsLeft text toks n m old names before lines at next → m ≡ 0
+    → lines_behind (lines_shape names lines) (run_last_line n (drop next (symbols_of text toks)))
+    ≡ lines_behind (lines_shape old before) (run_after_phis n (drop at (symbols_of text toks)))
+insts_end {text = text} {toks = toks} {n = n} {names = names} {lines = lines} {next = next} g e =
+    sym (g.same ∙ ap (λ z. lines_behind (lines_shape names lines) (rest_by z begins_inst (run_inst_line n) (run_last_line n) (drop next (symbols_of text toks)))) e
+    ∙ ap (lines_behind (lines_shape names lines)) (rest_end begins_inst (run_inst_line n) (run_last_line n) (drop next (symbols_of text toks))))

@@ -10,13 +10,14 @@ ghost use Rattle.block_reader.specs.Shapes.{lines_shape, lines_known, labelled_s
 ghost use Rattle.block_reader.specs.Spots.{InPieces, IsLineAt, IsBlockAt, IsEntryAt};
 
 mod ahead;
+mod others;
 mod single;
 
 use ir_grammar::Stop;
 use ir_lex::Token;
 use ir_tree::module::{Block, Inst};
 use ir_tree::names::{NameId, Names};
-use std::alloc::Global;
+use std::alloc::{AllocError, Global};
 
 /// The lines of a block, and the byte offset of the first token of each.
 #[derive(Debug, Drop)]
@@ -25,6 +26,20 @@ pub struct Lines {
     pub insts: Vec<Inst>,
     /// Where each begins.
     pub spots: Vec<usize>,
+}
+
+impl Lines {
+    ghost use Rattle.std.specs.Prelude.{[], ◌∷◌, ◌++◌};
+
+    /// One line more, behind the others.
+    fn push(&mut self, line: Inst, spot: usize) -> Result<(), AllocError>
+        ensures insts { IfOk result (λ _. self.new.insts.items ≡ self.old.insts.items ++ line ∷ []) }
+        ensures spots { IfOk result (λ _. self.new.spots.items ≡ self.old.spots.items ++ spot ∷ []) }
+    {
+        self.insts.push(line)?;
+        self.spots.push(spot)?;
+        Ok(())
+    }
 }
 
 /// A block with its label, and the byte offset of the first token of each of its lines.
