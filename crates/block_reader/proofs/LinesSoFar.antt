@@ -1,7 +1,9 @@
 -- The lines so far: their names are known, and the tokens up to the next line are theirs.
 use Rattle.std.proofs.Common.{◌≡◌, ℕ, suc, false, ◌+◌, ◌<◌, ◌≤◌, Bool, true, List, [], ◌∷◌, ◌++◌, length, map, drop, None, inl, inr, refl, sym, ◌∙◌, ap, subst, arith}
 use Rattle.std.specs.List.{slice_range, list_all}
-use Rattle.ir_grammar.specs.Reader.{Got, heads, opens}
+use Rattle.ir_grammar.specs.Language.{cons}
+use Rattle.ir_grammar.specs.Reader.{Got, Wrong, heads, opens, run_seq, run_map}
+use Rattle.ir_grammar.proofs.Loops.{after_none}
 use Rattle.ir_grammar.specs.Code.{Stops}
 use Rattle.ir_grammar.specs.declared.Stop.{Stop}
 use Rattle.ir_grammar.specs.declared.Stop.TheVariants.{WrongSymbol, OutOfMemory}
@@ -19,13 +21,13 @@ use Rattle.ir_tree.proofs.GrowsModule.{inst_shape-append, inst_known-more}
 use Rattle.ir_tree.proofs.Table.{grows_on, grows_same}
 use Rattle.type_reader.proofs.NamedItems.{Keeps, known_more, shapes_more, grows_length}
 use Rattle.inst_grammar.specs.Terminators.{term_head, term, run_term}
-use Rattle.module_grammar.specs.Blocks.{line_of, phi_line, inst_line, begins_inst, run_inst_line, run_last_line, run_after_phis}
+use Rattle.module_grammar.specs.Blocks.{line_of, phi_line, inst_line, begins_inst, run_inst_line, run_last_line, run_after_phis, run_lines}
 use Rattle.module_grammar.proofs.BlockLaw.{starts_result, starts_phi, starts_inst_line}
-use Rattle.block_reader.specs.Lines.{run_phi_line, lines_behind, AreLinesAt}
+use Rattle.block_reader.specs.Lines.{is_phi_line, run_phi_line, run_others, lines_behind, AreLinesAt}
 use Rattle.block_reader.specs.Spots.{start_of, InPieces, IsLineAt}
 use Rattle.block_reader.specs.Shapes.{lines_shape, lines_known}
 use Rattle.block_reader.specs.declared.Lines.{Lines}
-use Rattle.block_reader.proofs.LineByLine.{rest_by, rest_next, rest_wrong, rest_last, rest_end}
+use Rattle.block_reader.proofs.LineByLine.{lines_with_phi, lines_without_phi, no_lines, line_then, line_wrong, rest_by, rest_next, rest_wrong, rest_last, rest_end}
 use Rattle.block_reader.proofs.Sound.{Sound}
 use Rattle.block_reader.proofs.SoundLines.{sound_phi_line, sound_inst_line, sound_term}
 use Rattle.block_reader.proofs.Pieces.{pieces_more, slices_joined, no_slice, slice_spelled, goes_past, start_of_slice}
@@ -184,3 +186,82 @@ pub insts_end : {text : List ℕ} {toks : List Token} {n m : ℕ} {old names : L
 insts_end {text = text} {toks = toks} {n = n} {names = names} {lines = lines} {next = next} g e =
     sym (g.same ∙ ap (λ z. lines_behind (lines_shape names lines) (rest_by z begins_inst (run_inst_line n) (run_last_line n) (drop next (symbols_of text toks)))) e
     ∙ ap (lines_behind (lines_shape names lines)) (rest_end begins_inst (run_inst_line n) (run_last_line n) (drop next (symbols_of text toks))))
+
+-- one instruction behind lines
+pub inst_behind : (text : List ℕ) (toks : List Token) (n at next : ℕ) {old new : List (List ℕ)} → Grows old new → (lines more : Lines) (x : Inst)
+    → at ≤ length (symbols_of text toks) → lines_known (length old) lines ≡ true → inst_known (length new) x ≡ true → length new + at ≤ length old + next
+    → run_inst_line n (drop at (symbols_of text toks)) ≡ Got (inst_shape new x) (drop next (symbols_of text toks)) → next ≤ length (symbols_of text toks)
+    → more.insts.items ≡ lines.insts.items ++ x ∷ [] → more.spots.items ≡ lines.spots.items ++ start_of (drop at toks) ∷ []
+    → SoFar text toks (λ from. AreLinesAt text toks from at (lines_shape old lines) lines.spots.items) old new more at next
+inst_behind text toks n at next {old = old} {new = new} g lines more x h known fits count read le insts spots =
+    so_far_more (so_far_start text toks old lines at h known) g x fits next count le (inst_between n text toks at next (inst_shape new x) h le read) more insts spots
+
+-- the first line behind the phis is an instruction, and others follow
+pub others_go_on : {old new : List (List ℕ)} → Grows old new → (n : ℕ) (ts q : List Symbol) (lines more : Lines) (x : Inst) → lines_known (length old) lines ≡ true
+    → opens begins_inst ts ≡ true → run_inst_line n ts ≡ Got (inst_shape new x) q → more.insts.items ≡ lines.insts.items ++ x ∷ []
+    → lines_behind (lines_shape new more) (run_after_phis n q) ≡ lines_behind (lines_shape old lines) (run_others n ts)
+others_go_on {old = old} {new = new} g n ts q lines more x h begins read insts =
+    let step : lines_behind (lines_shape old lines) (run_map cons (run_seq (run_inst_line n) (run_after_phis n)) ts) ≡ lines_behind (lines_shape old lines ++ inst_shape new x ∷ []) (run_after_phis n q) =
+    line_then (run_inst_line n) (run_after_phis n) (lines_shape old lines) ts q (inst_shape new x) read in
+    rw begins (sym (step ∙ ap (λ z. lines_behind z (run_after_phis n q)) (front_more g lines more x h insts)))
+
+-- the lines so far and those to come, at most m phis, are the whole
+pub record LinesLeft (text : List ℕ) (toks : List Token) (n m : ℕ) (old names : List (List ℕ)) (lines : Lines) (at next : ℕ) : Type 0 where
+  pub so_far : SoFar text toks (λ from. from ≡ at) old names lines at next
+  pub same : run_lines n (drop at (symbols_of text toks)) ≡ lines_behind (lines_shape names lines) (run_lines m (drop next (symbols_of text toks)))
+
+pub lines_start : (text : List ℕ) (toks : List Token) (n : ℕ) (names : List (List ℕ)) (lines : Lines) (at : ℕ) → at ≤ length (symbols_of text toks)
+    → lines.insts.items ≡ [] → lines.spots.items ≡ [] → LinesLeft text toks n n names names lines at at
+lines_start text toks n names lines at h insts spots = record {
+  so_far = so_far_none text toks names lines at h insts spots;
+  same = rw insts (after_none (run_lines n (drop at (symbols_of text toks))));
+}
+
+-- a phi was read
+pub lines_go_on : {text : List ℕ} {toks : List Token} {n m : ℕ} {old names new : List (List ℕ)} {lines : Lines} {at next : ℕ} (k : ℕ)
+    → LinesLeft text toks n m old names lines at next → m ≡ suc k → is_phi_line (drop next (symbols_of text toks)) ≡ true
+    → Grows names new → (x : Inst) → inst_known (length new) x ≡ true → (past : ℕ) → length new + next ≤ length names + past
+    → run_phi_line m (drop next (symbols_of text toks)) ≡ Got (inst_shape new x) (drop past (symbols_of text toks)) → past ≤ length (symbols_of text toks)
+    → (more : Lines) → more.insts.items ≡ lines.insts.items ++ x ∷ [] → more.spots.items ≡ lines.spots.items ++ start_of (drop next toks) ∷ []
+    → LinesLeft text toks n k old new more at past
+lines_go_on {text = text} {toks = toks} {m = m} {names = names} {new = new} {lines = lines} {next = next} k g e begins grows x fits past count read le more insts spots =
+    let ss : List Symbol = symbols_of text toks in
+    let here : run_phi_line (suc k) (drop next ss) ≡ Got (inst_shape new x) (drop past ss) = subst (λ z. run_phi_line z (drop next ss) ≡ Got (inst_shape new x) (drop past ss)) e read in
+    record {
+      so_far = so_far_more g.so_far grows x fits past count le (phi_between m text toks next past (inst_shape new x) g.so_far.within le read) more insts spots;
+      same = g.same ∙ ap (λ z. lines_behind (lines_shape names lines) (run_lines z (drop next ss))) e
+          ∙ ap (lines_behind (lines_shape names lines)) (lines_with_phi k (drop next ss) begins)
+          ∙ line_then (run_phi_line (suc k)) (run_lines k) (lines_shape names lines) (drop next ss) (drop past ss) (inst_shape new x) here
+          ∙ ap (λ z. lines_behind z (run_lines k (drop past ss))) (front_more grows lines more x g.so_far.all_known insts);
+    }
+
+pub lines_stop : {text : List ℕ} {toks : List Token} {n m : ℕ} {old names : List (List ℕ)} {lines : Lines} {at next : ℕ} (k : ℕ)
+    → LinesLeft text toks n m old names lines at next → m ≡ suc k → is_phi_line (drop next (symbols_of text toks)) ≡ true
+    → (e : Stop) → Stops (symbols_of text toks) e (run_phi_line m (drop next (symbols_of text toks)))
+    → Stops (symbols_of text toks) e (run_lines n (drop at (symbols_of text toks)))
+lines_stop {text = text} {toks = toks} {names = names} {lines = lines} {next = next} k g e begins (WrongSymbol j) d =
+    let ss : List Symbol = symbols_of text toks in
+    let here : run_phi_line (suc k) (drop next ss) ≡ Wrong (drop j ss) = subst (λ z. run_phi_line z (drop next ss) ≡ Wrong (drop j ss)) e d.0 in (
+      g.same ∙ ap (λ z. lines_behind (lines_shape names lines) (run_lines z (drop next ss))) e
+          ∙ ap (lines_behind (lines_shape names lines)) (lines_with_phi k (drop next ss) begins)
+          ∙ line_wrong (run_phi_line (suc k)) (run_lines k) (lines_shape names lines) (drop next ss) (drop j ss) here,
+      d.1,
+    )
+lines_stop k g e begins OutOfMemory d = tt
+
+-- the phis are read
+pub lines_others : {text : List ℕ} {toks : List Token} {n m : ℕ} {old names : List (List ℕ)} {lines : Lines} {at next : ℕ} (k : ℕ)
+    → LinesLeft text toks n m old names lines at next → m ≡ suc k → is_phi_line (drop next (symbols_of text toks)) ≡ false
+    → lines_behind (lines_shape names lines) (run_others m (drop next (symbols_of text toks))) ≡ run_lines n (drop at (symbols_of text toks))
+lines_others {text = text} {toks = toks} {names = names} {lines = lines} {next = next} k g e begins =
+    let ss : List Symbol = symbols_of text toks in
+    sym (g.same ∙ ap (λ z. lines_behind (lines_shape names lines) (run_lines z (drop next ss))) e
+    ∙ ap (lines_behind (lines_shape names lines)) (lines_without_phi k (drop next ss) begins)
+    ∙ ap (λ z. lines_behind (lines_shape names lines) (run_others z (drop next ss))) (sym e))
+
+-- as many phis were read as may be
+pub lines_run_out : {text : List ℕ} {toks : List Token} {n m : ℕ} {old names : List (List ℕ)} {lines : Lines} {at next : ℕ}
+    → LinesLeft text toks n m old names lines at next → m ≡ 0 → run_lines n (drop at (symbols_of text toks)) ≡ Wrong (drop next (symbols_of text toks))
+lines_run_out {text = text} {toks = toks} {names = names} {lines = lines} {next = next} g e =
+    let ss : List Symbol = symbols_of text toks in
+    g.same ∙ ap (λ z. lines_behind (lines_shape names lines) (run_lines z (drop next ss))) e ∙ ap (lines_behind (lines_shape names lines)) (no_lines (drop next ss))

@@ -13,6 +13,9 @@ mod ahead;
 mod others;
 mod single;
 
+use crate::ahead::{begins_phi, start_at};
+use crate::others::others_at;
+use crate::single::phi_line_at;
 use ir_grammar::Stop;
 use ir_lex::Token;
 use ir_tree::module::{Block, Inst};
@@ -78,7 +81,18 @@ pub fn lines_at(
         (run_lines budget (drop at (symbols_of text.now toks.now))) }
     ensures spots { IfOk result (λ x. InPieces (IsLineAt text.now) (slice_range toks.now at x.1) (lines_shape names.new x.0) x.0.spots.items) }
 {
-    Err(Stop::OutOfMemory)
+    let mut lines = Lines { insts: Vec::new(alloc), spots: Vec::new(alloc) };
+    let mut next = at;
+    for read in 0..budget {
+        let left = budget - read;
+        if !begins_phi(text, toks, next) {
+            return others_at(alloc, text, toks, next, left, lines, names);
+        }
+        let (line, end) = phi_line_at(alloc, text, toks, next, left, names)?;
+        lines.push(line, start_at(toks, next))?;
+        next = end;
+    }
+    Err(Stop::WrongSymbol(next))
 }
 
 /// The block at `at`, which has a label, and the number of the token behind it. At most `budget` tokens are read.
