@@ -5,3 +5,4 @@ pub mod Pieces
 pub mod MarksAhead
 pub mod LineParts
 pub mod LinesSoFar
+pub mod WholeBlocks

@@ -10,10 +10,12 @@ ghost use Rattle.block_reader.specs.Shapes.{lines_shape, lines_known, labelled_s
 ghost use Rattle.block_reader.specs.Spots.{InPieces, IsLineAt, IsBlockAt, IsEntryAt};
 
 mod ahead;
+mod label;
 mod others;
 mod single;
 
 use crate::ahead::{begins_phi, start_at};
+use crate::label::{label_at, maybe_label_at};
 use crate::others::others_at;
 use crate::single::phi_line_at;
 use ir_grammar::Stop;
@@ -113,7 +115,10 @@ pub fn block_at(
         (run_block budget (drop at (symbols_of text.now toks.now))) }
     ensures spots { IfOk result (λ x. IsBlockAt text.now (slice_range toks.now at x.1) (labelled_shape names.new x.0) x.0.spots.items) }
 {
-    Err(Stop::OutOfMemory)
+    let (name, first) = label_at(alloc, text, toks, at, names)?;
+    let (lines, end) = lines_at(alloc, text, toks, first, budget, names)?;
+    let block = Block { name, insts: lines.insts };
+    Ok((LabelledBlock { block, spots: lines.spots }, end))
 }
 
 /// The first block of a function at `at`, and the number of the token behind it. At most `budget` tokens are read.
@@ -134,5 +139,7 @@ pub fn entry_at(
         (run_first_block budget (drop at (symbols_of text.now toks.now))) }
     ensures spots { IfOk result (λ x. IsEntryAt text.now (slice_range toks.now at x.1) (entry_shape names.new x.0) x.0.lines.spots.items) }
 {
-    Err(Stop::OutOfMemory)
+    let (label, first) = maybe_label_at(alloc, text, toks, at, names)?;
+    let (lines, end) = lines_at(alloc, text, toks, first, budget, names)?;
+    Ok((EntryBlock { label, lines }, end))
 }
