@@ -1,13 +1,13 @@
 -- The reader of a block's lines goes on line by line.
 use Rattle.std.proofs.Common.{◌≡◌, ℕ, zero, suc, Bool, true, false, ◌||◌, List, [], ◌∷◌, ◌++◌, Option, None, Some, refl, sym, ◌∙◌, ap}
 use Rattle.ir_grammar.specs.Language.{cons}
-use Rattle.ir_grammar.specs.Reader.{Out, Got, Wrong, Reader, then_out, heads, opens, run_seq, run_map, run_maybe, run_or}
+use Rattle.ir_grammar.specs.Reader.{Out, Got, Wrong, Reader, then_out, heads, opens, run_seq, run_map, run_maybe, run_or, run_many}
 use Rattle.ir_grammar.proofs.Loops.{after, after_one}
 use Rattle.ir_tree.specs.Shape.{BodyShape, InstShape}
 use Rattle.ir_lex.specs.Symbols.{Symbol, LocalSymbol}
 use Rattle.inst_grammar.specs.Operands.{local_name}
 use Rattle.inst_grammar.specs.Instructions.{phi_word, inst_head, run_phi, run_inst}
-use Rattle.module_grammar.specs.Blocks.{line_of, with_result, without_result, run_result, begins_inst, begins_word, run_last_line, run_after_phis, run_lines}
+use Rattle.module_grammar.specs.Blocks.{line_of, joined, with_result, without_result, run_result, begins_inst, begins_word, run_last_line, run_after_phis, run_lines}
 use Rattle.block_reader.specs.Lines.{told_phi, is_phi_line, run_phi_line, run_others}
 
 -- the lines as they are told, over any readers of their parts
@@ -106,3 +106,59 @@ lines_without_phi n ts h = no_phi_here run_result (run_phi (suc n)) (run_inst (s
 pub no_lines : (ts : List Symbol) → run_lines zero ts ≡ Wrong ts
 unfolding run_lines
 no_lines ts = refl
+
+-- instructions, at most m of them, and then the terminator
+abbrev pub rest_by : ℕ → (Symbol → Bool) → Reader Symbol InstShape → Reader Symbol (List InstShape) → Reader Symbol (List InstShape)
+rest_by m p item last = run_map joined (run_seq (run_many m p item) last)
+
+joined_one : (v : InstShape) (o : Out Symbol (List InstShape)) (vs : List InstShape)
+    → then_out (then_out {B = List InstShape × List InstShape} o (λ w q. Got (v ∷ vs, w) q)) (λ x q. Got (joined x) q)
+    ≡ then_out (then_out (then_out {B = List InstShape × List InstShape} o (λ w q. Got (vs, w) q)) (λ x q. Got (joined x) q)) (λ us q. Got (v ∷ us) q)
+joined_one v (Got w q) vs = refl
+joined_one v (Wrong q) vs = refl
+
+joined_more : (v : InstShape) (last : Reader Symbol (List InstShape)) (o : Out Symbol (List InstShape))
+    → then_out (then_out {B = List InstShape × List InstShape} (then_out (then_out {B = InstShape × List InstShape} o (λ w q. Got (v, w) q)) (λ x q. Got (cons x) q)) (λ vs rest. then_out {B = List InstShape × List InstShape} (last rest) (λ w q. Got (vs, w) q))) (λ x q. Got (joined x) q)
+    ≡ then_out (then_out (then_out {B = List InstShape × List InstShape} o (λ vs rest. then_out {B = List InstShape × List InstShape} (last rest) (λ w q. Got (vs, w) q))) (λ x q. Got (joined x) q)) (λ us q. Got (v ∷ us) q)
+joined_more v last (Got vs rest) = joined_one v (last rest) vs
+joined_more v last (Wrong rest) = refl
+
+joined_none : (o : Out Symbol (List InstShape)) → then_out (then_out {B = List InstShape × List InstShape} o (λ w q. Got ([], w) q)) (λ x q. Got (joined x) q) ≡ o
+joined_none (Got w q) = refl
+joined_none (Wrong q) = refl
+
+-- an instruction was read
+pub rest_next : (m : ℕ) (p : Symbol → Bool) (item : Reader Symbol InstShape) (last : Reader Symbol (List InstShape)) (front : List InstShape) (ts q : List Symbol) (v : InstShape)
+    → opens p ts ≡ true → item ts ≡ Got v q → after front (rest_by (suc m) p item last ts) ≡ after (front ++ v ∷ []) (rest_by m p item last q)
+unfolding run_many
+rest_next m p item last front ts q v c e = rw (c, e) (ap (after front) (joined_more v last (run_many m p item q)) ∙ after_one front v (rest_by m p item last q))
+
+pub rest_wrong : (m : ℕ) (p : Symbol → Bool) (item : Reader Symbol InstShape) (last : Reader Symbol (List InstShape)) (front : List InstShape) (ts q : List Symbol)
+    → opens p ts ≡ true → item ts ≡ Wrong q → after front (rest_by (suc m) p item last ts) ≡ Wrong q
+unfolding run_many
+rest_wrong m p item last front ts q c e = rw (c, e) refl
+
+-- no instruction follows
+pub rest_last : (m : ℕ) (p : Symbol → Bool) (item : Reader Symbol InstShape) (last : Reader Symbol (List InstShape)) (ts : List Symbol)
+    → opens p ts ≡ false → rest_by m p item last ts ≡ last ts
+unfolding run_many
+rest_last zero p item last ts c = joined_none (last ts)
+rest_last (suc m) p item last ts c = rw c (joined_none (last ts))
+
+pub rest_end : (p : Symbol → Bool) (item : Reader Symbol InstShape) (last : Reader Symbol (List InstShape)) (ts : List Symbol) → rest_by zero p item last ts ≡ last ts
+unfolding run_many
+rest_end p item last ts = joined_none (last ts)
+
+line_and : (v : InstShape) (o : Out Symbol (List InstShape))
+    → then_out (then_out {B = InstShape × List InstShape} o (λ w q. Got (v, w) q)) (λ x q. Got (cons x) q) ≡ then_out o (λ us q. Got (v ∷ us) q)
+line_and v (Got w q) = refl
+line_and v (Wrong q) = refl
+
+-- a line was read, and others follow
+pub line_then : (item : Reader Symbol InstShape) (others : Reader Symbol (List InstShape)) (front : List InstShape) (ts q : List Symbol) (v : InstShape)
+    → item ts ≡ Got v q → after front (run_map cons (run_seq item others) ts) ≡ after (front ++ v ∷ []) (others q)
+line_then item others front ts q v e = rw e (ap (after front) (line_and v (others q)) ∙ after_one front v (others q))
+
+pub line_wrong : (item : Reader Symbol InstShape) (others : Reader Symbol (List InstShape)) (front : List InstShape) (ts q : List Symbol)
+    → item ts ≡ Wrong q → after front (run_map cons (run_seq item others) ts) ≡ Wrong q
+line_wrong item others front ts q e = rw e refl

@@ -9,11 +9,20 @@ ghost use Rattle.module_grammar.specs.Blocks.{run_lines, run_block, run_first_bl
 ghost use Rattle.block_reader.specs.Shapes.{lines_shape, lines_known, labelled_shape, labelled_known, entry_shape, entry_known};
 ghost use Rattle.block_reader.specs.Spots.{InPieces, IsLineAt, IsBlockAt, IsEntryAt};
 
+mod ahead;
+mod label;
+mod others;
+mod single;
+
+use crate::ahead::{begins_phi, start_at};
+use crate::label::{label_at, maybe_label_at};
+use crate::others::others_at;
+use crate::single::phi_line_at;
 use ir_grammar::Stop;
 use ir_lex::Token;
 use ir_tree::module::{Block, Inst};
 use ir_tree::names::{NameId, Names};
-use std::alloc::Global;
+use std::alloc::{AllocError, Global};
 
 /// The lines of a block, and the byte offset of the first token of each.
 #[derive(Debug, Drop)]
@@ -22,6 +31,20 @@ pub struct Lines {
     pub insts: Vec<Inst>,
     /// Where each begins.
     pub spots: Vec<usize>,
+}
+
+impl Lines {
+    ghost use Rattle.std.specs.Prelude.{[], ◌∷◌, ◌++◌};
+
+    /// One line more, behind the others.
+    fn push(&mut self, line: Inst, spot: usize) -> Result<(), AllocError>
+        ensures insts { IfOk result (λ _. self.new.insts.items ≡ self.old.insts.items ++ line ∷ []) }
+        ensures spots { IfOk result (λ _. self.new.spots.items ≡ self.old.spots.items ++ spot ∷ []) }
+    {
+        self.insts.push(line)?;
+        self.spots.push(spot)?;
+        Ok(())
+    }
 }
 
 /// A block with its label, and the byte offset of the first token of each of its lines.
@@ -60,7 +83,18 @@ pub fn lines_at(
         (run_lines budget (drop at (symbols_of text.now toks.now))) }
     ensures spots { IfOk result (λ x. InPieces (IsLineAt text.now) (slice_range toks.now at x.1) (lines_shape names.new x.0) x.0.spots.items) }
 {
-    Err(Stop::OutOfMemory)
+    let mut lines = Lines { insts: Vec::new(alloc), spots: Vec::new(alloc) };
+    let mut next = at;
+    for read in 0..budget {
+        let left = budget - read;
+        if !begins_phi(text, toks, next) {
+            return others_at(alloc, text, toks, next, left, lines, names);
+        }
+        let (line, end) = phi_line_at(alloc, text, toks, next, left, names)?;
+        lines.push(line, start_at(toks, next))?;
+        next = end;
+    }
+    Err(Stop::WrongSymbol(next))
 }
 
 /// The block at `at`, which has a label, and the number of the token behind it. At most `budget` tokens are read.
@@ -81,7 +115,10 @@ pub fn block_at(
         (run_block budget (drop at (symbols_of text.now toks.now))) }
     ensures spots { IfOk result (λ x. IsBlockAt text.now (slice_range toks.now at x.1) (labelled_shape names.new x.0) x.0.spots.items) }
 {
-    Err(Stop::OutOfMemory)
+    let (name, first) = label_at(alloc, text, toks, at, names)?;
+    let (lines, end) = lines_at(alloc, text, toks, first, budget, names)?;
+    let block = Block { name, insts: lines.insts };
+    Ok((LabelledBlock { block, spots: lines.spots }, end))
 }
 
 /// The first block of a function at `at`, and the number of the token behind it. At most `budget` tokens are read.
@@ -102,5 +139,7 @@ pub fn entry_at(
         (run_first_block budget (drop at (symbols_of text.now toks.now))) }
     ensures spots { IfOk result (λ x. IsEntryAt text.now (slice_range toks.now at x.1) (entry_shape names.new x.0) x.0.lines.spots.items) }
 {
-    Err(Stop::OutOfMemory)
+    let (label, first) = maybe_label_at(alloc, text, toks, at, names)?;
+    let (lines, end) = lines_at(alloc, text, toks, first, budget, names)?;
+    Ok((EntryBlock { label, lines }, end))
 }

@@ -1,0 +1,106 @@
+//! What the tokens ahead say of a line, without reading it.
+
+ghost use Rattle.std.specs.Prelude.{◌≡◌, ◌≤◌, length, drop};
+ghost use Rattle.ir_grammar.specs.Reader.{heads, opens};
+ghost use Rattle.ir_lex.specs.Symbols.{KeywordSymbol, symbols_of};
+ghost use Rattle.inst_grammar.specs.Operands.{local_name};
+ghost use Rattle.inst_grammar.specs.Instructions.{phi_word, inst_head};
+ghost use Rattle.module_grammar.specs.Blocks.{begins_inst};
+ghost use Rattle.block_reader.specs.Lines.{is_phi_line};
+ghost use Rattle.block_reader.specs.Spots.{start_of};
+
+use ir_lex::{Keyword, Token};
+use ir_symbols::{Meaning, after_mark, meaning_at};
+
+/// The byte offset of the token at `at`, and 0 behind the last one.
+pub fn start_at(toks: &[Token], at: usize) -> usize
+    ensures { result ≡ start_of (drop at toks.now) }
+{
+    match toks.get(at) {
+        Some(token) => token.start,
+        None => 0,
+    }
+}
+
+/// Whether there is a Local at `at`.
+pub fn is_local(text: &[u8], toks: &[Token], at: usize) -> bool
+    requires { at ≤ length (symbols_of text.now toks.now) }
+    ensures { result ≡ opens (heads local_name) (drop at (symbols_of text.now toks.now)) }
+{
+    match meaning_at(text, toks, at) {
+        Some(Meaning::Local(_)) => true,
+        _ => false,
+    }
+}
+
+/// Whether there is the word `phi` at `at`.
+fn is_phi(text: &[u8], toks: &[Token], at: usize) -> bool
+    requires { at ≤ length (symbols_of text.now toks.now) }
+    ensures { result ≡ opens (heads phi_word) (drop at (symbols_of text.now toks.now)) }
+{
+    match meaning_at(text, toks, at) {
+        Some(Meaning::Keyword(Keyword::Phi)) => true,
+        _ => false,
+    }
+}
+
+/// Whether the line at `at` is a phi.
+#[tactic(auto, using(crate::proofs::MarksAhead::not_one), unfolding(crate::specs::Lines::is_phi_line))]
+pub fn begins_phi(text: &[u8], toks: &[Token], at: usize) -> bool
+    requires { at ≤ length (symbols_of text.now toks.now) }
+    ensures { result ≡ is_phi_line (drop at (symbols_of text.now toks.now)) }
+{
+    match meaning_at(text, toks, at) {
+        Some(Meaning::Local(_)) => match after_mark(text, toks, at + 1, b'=') {
+            Some(word) => is_phi(text, toks, word),
+            None => false,
+        },
+        Some(Meaning::Keyword(Keyword::Phi)) => true,
+        _ => false,
+    }
+}
+
+/// Whether an instruction begins with the word.
+fn is_inst_word(word: Keyword) -> bool
+    ensures { result ≡ heads inst_head (KeywordSymbol word) }
+{
+    match word {
+        Keyword::Add
+        | Keyword::Sub
+        | Keyword::Mul
+        | Keyword::Shl
+        | Keyword::Udiv
+        | Keyword::Sdiv
+        | Keyword::Lshr
+        | Keyword::Ashr
+        | Keyword::Urem
+        | Keyword::Srem
+        | Keyword::And
+        | Keyword::Or
+        | Keyword::Xor
+        | Keyword::Icmp
+        | Keyword::Select
+        | Keyword::Zext
+        | Keyword::Sext
+        | Keyword::Trunc
+        | Keyword::Freeze
+        | Keyword::Alloca
+        | Keyword::Load
+        | Keyword::Store
+        | Keyword::GetElementPtr
+        | Keyword::Call => true,
+        _ => false,
+    }
+}
+
+/// Whether an instruction begins at `at`, with its result or with its word.
+pub fn begins_inst(text: &[u8], toks: &[Token], at: usize) -> bool
+    requires { at ≤ length (symbols_of text.now toks.now) }
+    ensures { result ≡ opens begins_inst (drop at (symbols_of text.now toks.now)) }
+{
+    match meaning_at(text, toks, at) {
+        Some(Meaning::Local(_)) => true,
+        Some(Meaning::Keyword(word)) => is_inst_word(word),
+        _ => false,
+    }
+}
