@@ -10,7 +10,7 @@ use Rattle.inst_grammar.specs.Spelling.{bin_word, pred_word, conv_word, flag_wor
 use Rattle.const_printer.specs.Texts.{in_row}
 use Rattle.ir_print.specs.Texts.{word_text, local_text, number_text, value_text, typed_text, two_text, target_text, flag_part, flags_part, input_text, case_text, callee_gap, is_global_name, in_spaces, count_part, body_text}
 use Rattle.ir_print.proofs.Pieces.{Piece, Item, both, item_then, alone, empty_piece, comma_piece, more_piece, bracket_item, parens_item, commas_piece, listed_text, listed_piece, spaces_text}
-use Rattle.ir_print.proofs.Operands.{word_item, local_item, number_item, type_item, value_item, value_gap}
+use Rattle.ir_print.proofs.OperandItems.{word_item, local_item, number_item, type_item, value_item, value_gap}
 
 pub typed_item : (v : TyValShape) → Item (ty_val_spelling v) (typed_text v)
 typed_item v = item_then (type_item v.ty) (value_item v.val).piece

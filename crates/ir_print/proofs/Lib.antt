@@ -1,5 +1,5 @@
 pub mod Lines
 pub mod Pieces
-pub mod Operands
+pub mod OperandItems
 pub mod Bodies
 pub mod Modules

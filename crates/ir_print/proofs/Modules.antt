@@ -11,7 +11,7 @@ use Rattle.module_grammar.specs.Spelling.{result_spelling, line_spelling, name_s
 use Rattle.ir_print.specs.Printed.{outer, inner, block_lines, function_lines, module_text}
 use Rattle.ir_print.specs.Texts.{word_text, local_text, global_text, label_text, type_text, constant_text, result_text, body_text, line_text, block_text, name_part, parameter_text, signature_text, type_line, global_line, declare_line, function_text, items_text}
 use Rattle.ir_print.proofs.Pieces.{Piece, Item, both, item_then, alone, empty_piece, equals_piece, parens_item, brace_text, listed_text}
-use Rattle.ir_print.proofs.Operands.{word_item, local_item, global_item, type_item, constant_item}
+use Rattle.ir_print.proofs.OperandItems.{word_item, local_item, global_item, type_item, constant_item}
 use Rattle.ir_print.proofs.Bodies.{body_item}
 
 -- a name, `=`, and what it names

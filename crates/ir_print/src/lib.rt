@@ -14,6 +14,8 @@ ghost use Rattle.module_grammar.specs.Modules.{run_module, whole_module};
 ghost use Rattle.module_grammar.specs.Spelling.{module_spelling, FitsModule};
 ghost use Rattle.ir_print.specs.Printed.{module_lines, module_text};
 
+mod operands;
+
 use ir_tree::module::Module;
 use std::alloc::{AllocError, Global};
 
