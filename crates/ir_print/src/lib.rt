@@ -14,7 +14,10 @@ ghost use Rattle.module_grammar.specs.Modules.{run_module, whole_module};
 ghost use Rattle.module_grammar.specs.Spelling.{module_spelling, FitsModule};
 ghost use Rattle.ir_print.specs.Printed.{module_lines, module_text};
 
+mod blocks;
+mod instructions;
 mod operands;
+mod terminators;
 
 use ir_tree::module::Module;
 use std::alloc::{AllocError, Global};

@@ -116,11 +116,7 @@ pub fn push_typed(names: &Names, operand: &TyVal, to: &mut Vec<u8>) -> Result<()
 }
 
 /// Appends an operand with its type behind a blank.
-pub fn push_spaced_typed(
-    names: &Names,
-    operand: &TyVal,
-    to: &mut Vec<u8>,
-) -> Result<(), AllocError>
+pub fn push_spaced_typed(names: &Names, operand: &TyVal, to: &mut Vec<u8>) -> Result<(), AllocError>
     ensures { OnOk result (to.new.items ≡ to.old.items ++ 32 ∷ typed_text (ty_val_shape names.now operand.now)) }
 {
     to.push(b' ')?;
