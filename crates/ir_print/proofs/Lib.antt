@@ -3,3 +3,4 @@ pub mod Pieces
 pub mod OperandItems
 pub mod Bodies
 pub mod Modules
+pub mod Rows

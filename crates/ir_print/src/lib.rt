@@ -1,4 +1,7 @@
-//! The printed form of modules.
+//! The printed form of modules, and the law that it is read back.
+//!
+//! A module is printed line by line as its spelling is: named types, globals, declarations and functions, each
+//! part appended by a function of its own.
 #![tactic(auto)]
 
 ghost use Rattle.std.specs.Prelude.{◌≡◌, ℕ, List, [], length, IfOk};
@@ -16,9 +19,11 @@ ghost use Rattle.ir_print.specs.Printed.{module_lines, module_text};
 
 mod blocks;
 mod instructions;
+mod items;
 mod operands;
 mod terminators;
 
+use crate::items::push_items;
 use ir_tree::module::Module;
 use std::alloc::{AllocError, Global};
 
@@ -29,11 +34,11 @@ use std::alloc::{AllocError, Global};
 ///
 /// Want of memory.
 pub fn print(alloc: Global, module: &Module) -> Result<Vec<u8>, AllocError>
-    ensures { IfOk result (λ text. text.items ≡ module_text (module_shape module.now)) }
+    ensures { IfOk result (λ text. text.items ≡ module_text (module_shape «module».now)) }
 {
-    let _ = alloc;
-    let _ = module;
-    Err(AllocError)
+    let mut text = Vec::new(alloc);
+    push_items(module, &mut text)?;
+    Ok(text)
 }
 
 /// The lines of a module are its spelling, cut into lines.
