@@ -24,7 +24,7 @@ mod types;
 
 pub use constants::push_const;
 pub use printing::{print_const, print_ty};
-pub use types::push_ty;
+pub use types::{name_of, push_comma, push_ty, push_tys};
 
 /// A printed type is read back, whatever printable symbols follow: the tokens of the text mean its spelling,
 /// and the reader of types gives the type again. So it is in any text that spells the type and what follows,

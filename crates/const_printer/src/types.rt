@@ -89,7 +89,12 @@ fn push_struct(
 /// Appends types in a row, with a comma and a blank between them, and before the first where something
 /// stands before it.
 #[cycle(types)]
-fn push_tys(names: &Names, tys: &[Ty], is_behind: bool, to: &mut Vec<u8>) -> Result<(), AllocError>
+pub fn push_tys(
+    names: &Names,
+    tys: &[Ty],
+    is_behind: bool,
+    to: &mut Vec<u8>,
+) -> Result<(), AllocError>
     ensures { OnOk result (to.new.items ≡ to.old.items ++ in_row is_behind (map (ty_text names.now) tys.now)) }
 {
     let mut needs_comma = is_behind;

@@ -1,7 +1,7 @@
 -- The printed form of a module: its spelling, line by line.
-use Rattle.std.specs.Prelude.{ℕ, List, [], ◌∷◌, ◌++◌, map, replicate}
+use Rattle.std.specs.Prelude.{ℕ, List, [], ◌∷◌, ◌++◌, map}
 use Rattle.std.specs.List.{flat_map}
-use Rattle.ir_tree.specs.Shape.{InstShape, BlockShape, NamedTyShape, GlobalShape, DeclareShape, FunctionShape, ModuleShape}
+use Rattle.ir_tree.specs.Shape.{InstShape, BlockShape, FunctionShape, ModuleShape}
 use Rattle.ir_words.specs.declared.words.Keyword.TheVariants.{Define}
 use Rattle.ir_lex.specs.Symbols.{Symbol, KeywordSymbol, LabelSymbol, MarkSymbol}
 use Rattle.ir_spell.specs.Printed.{Line, text_of_lines}

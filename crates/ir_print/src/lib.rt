@@ -1,10 +1,29 @@
-//! The printed form of modules.
+//! The printed form of modules, and the law that it is read back.
+//!
+//! A module is printed line by line as its spelling is: named types, globals, declarations and functions, each
+//! part appended by a function of its own.
 #![tactic(auto)]
 
-ghost use Rattle.std.specs.Prelude.{◌≡◌, IfOk};
+ghost use Rattle.std.specs.Prelude.{◌≡◌, ℕ, List, [], length, IfOk};
+ghost use Rattle.ir_grammar.specs.Reader.{Got};
+ghost use Rattle.ir_lex.specs.declared.token.Token.{Token};
+ghost use Rattle.ir_lex.specs.Symbols.{symbols_of};
+ghost use Rattle.ir_lex.specs.Tokens.{AreTokens};
+ghost use Rattle.ir_spell.specs.Printed.{ArePrintable, rows_of};
+ghost use Rattle.ir_spell.specs.Spells.{Spells};
+ghost use Rattle.ir_tree.specs.Shape.{ModuleShape};
 ghost use Rattle.ir_tree.specs.ShapeOf.{module_shape};
-ghost use Rattle.ir_print.specs.Printed.{module_text};
+ghost use Rattle.module_grammar.specs.Modules.{run_module, whole_module};
+ghost use Rattle.module_grammar.specs.Spelling.{module_spelling, FitsModule};
+ghost use Rattle.ir_print.specs.Printed.{module_lines, module_text};
 
+mod blocks;
+mod instructions;
+mod items;
+mod operands;
+mod terminators;
+
+use crate::items::push_items;
 use ir_tree::module::Module;
 use std::alloc::{AllocError, Global};
 
@@ -15,9 +34,27 @@ use std::alloc::{AllocError, Global};
 ///
 /// Want of memory.
 pub fn print(alloc: Global, module: &Module) -> Result<Vec<u8>, AllocError>
-    ensures { IfOk result (λ text. text.items ≡ module_text (module_shape module.now)) }
+    ensures { IfOk result (λ text. text.items ≡ module_text (module_shape «module».now)) }
 {
-    let _ = alloc;
-    let _ = module;
-    Err(AllocError)
+    let mut text = Vec::new(alloc);
+    push_items(module, &mut text)?;
+    Ok(text)
 }
+
+/// The lines of a module are its spelling, cut into lines.
+pub fn module_lines_are_its_spelling()
+    ensures { (m : ModuleShape) → rows_of (module_lines m) ≡ module_spelling m }
+{}
+
+/// A printed module is read back: the tokens of the text mean its spelling, and the reader of modules gives the
+/// module again. So it is in any text that spells the module, with other blanks or on other lines, for whatever
+/// tokens that text has.
+pub fn printed_modules_are_read_back()
+    ensures spelled { (m : ModuleShape) → ArePrintable (module_spelling m) → Spells (module_text m) (module_spelling m) }
+    ensures back { (m : ModuleShape) (text : List ℕ) (toks : List Token) → FitsModule m → Spells text (module_spelling m) → AreTokens text toks →
+        run_module (length (symbols_of text toks)) (symbols_of text toks) ≡ Got m [] }
+    ensures printed { (m : ModuleShape) (toks : List Token) → FitsModule m → ArePrintable (module_spelling m) → AreTokens (module_text m) toks →
+        run_module (length (symbols_of (module_text m) toks)) (symbols_of (module_text m) toks) ≡ Got m [] }
+    ensures spells_it { (m : ModuleShape) (toks : List Token) → FitsModule m → ArePrintable (module_spelling m) → AreTokens (module_text m) toks →
+        whole_module (symbols_of (module_text m) toks) m }
+{}

@@ -1,0 +1,6 @@
+pub mod Lines
+pub mod Pieces
+pub mod OperandItems
+pub mod Bodies
+pub mod Modules
+pub mod Rows
