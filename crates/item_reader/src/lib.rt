@@ -1,6 +1,9 @@
 //! Named types, globals, declared functions and the signatures of functions, read from tokens.
 #![tactic(auto)]
 
+mod heads;
+mod parameters;
+
 ghost use Rattle.std.specs.Prelude.{◌≡◌, ◌+◌, ◌^◌, ◌<◌, ◌≤◌, length, drop, true, IfOk};
 ghost use Rattle.ir_grammar.specs.Code.{Gives};
 ghost use Rattle.ir_lex.specs.Symbols.{symbols_of};
@@ -9,12 +12,18 @@ ghost use Rattle.ir_tree.specs.Known.{named_ty_known, global_known, declare_know
 ghost use Rattle.module_grammar.specs.Items.{run_signature, run_type_line, run_global_line, run_declare_line};
 ghost use Rattle.item_reader.specs.Shapes.{signature_shape, signature_known, type_item_shape, global_item_shape, declare_item_shape};
 
+use crate::heads::{after_declare, after_type_word, constancy_at};
+use crate::parameters::{parameters_at, types_of};
+use const_reader::const_at;
 use ir_grammar::Stop;
 use ir_lex::Token;
+use ir_symbols::mark_at;
 use ir_tree::module::{Declare, GlobalItem, NamedTy, Param};
 use ir_tree::names::{NameId, Names};
 use ir_tree::types::Ty;
 use std::alloc::Global;
+use type_reader::type_at;
+use value_reader::{global_at, local_at};
 
 /// What a function returns, its name and its parameters.
 #[derive(Debug, Drop)]
@@ -44,7 +53,10 @@ pub fn signature_at(
     ensures reads { Gives (signature_shape names.new) (symbols_of text.now toks.now) result
         (run_signature budget (drop at (symbols_of text.now toks.now))) }
 {
-    Err(Stop::OutOfMemory)
+    let (ret, next) = type_at(alloc, text, toks, at, budget, names)?;
+    let (name, next) = global_at(alloc, text, toks, next, names)?;
+    let (params, end) = parameters_at(alloc, text, toks, next, budget, names)?;
+    Ok((Signature { ret, name, params }, end))
 }
 
 /// The named type at `at`, and the number of the token behind it.
@@ -64,7 +76,11 @@ pub fn type_line_at(
     ensures reads { Gives (type_item_shape names.new) (symbols_of text.now toks.now) result
         (run_type_line budget (drop at (symbols_of text.now toks.now))) }
 {
-    Err(Stop::OutOfMemory)
+    let (name, next) = local_at(alloc, text, toks, at, names)?;
+    let next = mark_at(text, toks, next, b'=')?;
+    let next = after_type_word(text, toks, next)?;
+    let (ty, end) = type_at(alloc, text, toks, next, budget, names)?;
+    Ok((NamedTy { name, ty }, end))
 }
 
 /// The global at `at`, and the number of the token behind it.
@@ -84,7 +100,20 @@ pub fn global_line_at(
     ensures reads { Gives (global_item_shape names.new) (symbols_of text.now toks.now) result
         (run_global_line budget (drop at (symbols_of text.now toks.now))) }
 {
-    Err(Stop::OutOfMemory)
+    let (name, next) = global_at(alloc, text, toks, at, names)?;
+    let next = mark_at(text, toks, next, b'=')?;
+    let (constant, next) = constancy_at(text, toks, next)?;
+    let (ty, next) = type_at(alloc, text, toks, next, budget, names)?;
+    let (init, end) = const_at(alloc, text, toks, next, budget, names)?;
+    Ok((
+        GlobalItem {
+            name,
+            constant,
+            ty,
+            init,
+        },
+        end,
+    ))
 }
 
 /// The declared function at `at`, and the number of the token behind it. The names of its parameters are dropped.
@@ -104,5 +133,9 @@ pub fn declare_line_at(
     ensures reads { Gives (declare_item_shape names.new) (symbols_of text.now toks.now) result
         (run_declare_line budget (drop at (symbols_of text.now toks.now))) }
 {
-    Err(Stop::OutOfMemory)
+    let next = after_declare(text, toks, at)?;
+    let (signature, end) = signature_at(alloc, text, toks, next, budget, names)?;
+    let Signature { ret, name, params } = signature;
+    let params = types_of(alloc, params)?;
+    Ok((Declare { name, ret, params }, end))
 }
