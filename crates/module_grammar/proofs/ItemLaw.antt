@@ -130,7 +130,7 @@ starts_declare_line = starts_pick declare_word _
 starts_function : Starts (heads define_word) function
 starts_function = starts_pick define_word _
 
-good_item : (n : ℕ) → Good n item (run_item n) never
+pub good_item : (n : ℕ) → Good n item (run_item n) never
 good_item n =
     good_or (heads local_name) starts_type_line
     (joins_starts (starts_or (starts_more begins_unnamed global_unnamed starts_global_line)
@@ -151,7 +151,7 @@ unnamed_item (KeywordSymbol Declare) h = refl
 unnamed_item (KeywordSymbol Define) h = refl
 unnamed_item _ h = cc
 
-starts_item : Starts begins_item item
+pub starts_item : Starts begins_item item
 starts_item =
     starts_or (starts_more begins_item local_item starts_type_line)
     (starts_or (starts_more begins_item (λ t h. unnamed_item t (global_unnamed t h)) starts_global_line)
