@@ -21,4 +21,4 @@ pub three_read : {A B V W X : Type 0} {shape : List (List ℕ) → A → V} {kno
     → (x : A) (y : B) → known (length one) x ≡ true → second_known (length two) y ≡ true → (a : Reader Symbol V) (b : Reader Symbol W) (r : Reader Symbol X)
     → (ts : List Symbol) {p q rest : List Symbol} {z : X} → a ts ≡ Got (shape one x) p → b p ≡ Got (second_shape two y) q → r q ≡ Got z rest
     → run_seq a (run_seq b r) ts ≡ Got (shape new x, (second_shape new y, z)) rest
-three_read keeps also g h x y k l a b r ts e f i = seq_read keeps (grows_on g h) a (run_seq b r) {ts = ts} x k e (seq_read also h b r y l f i)
+three_read keeps also g h x y k l a b r ts e f i = seq_read keeps (grows_on g h) a (run_seq b r) ts x k e (seq_read also h b r _ y l f i)

@@ -112,7 +112,7 @@ first_known {id = id} insts g =
 first_shape : {zero one two three : List (List ℕ)} {params : List Param} {label : Option NameId} {id : NameId} → (insts : Vec Inst Global)
     → Named zero one two three params label insts.items id
     → ◌≡◌ {A = BlockShape} (record { name = first_name (map (param_shape zero) params) (option_map (name_shape one) label); insts = map (inst_shape one) insts.items })
-        (block_shape three (record { name = id; insts = insts }))
+    (block_shape three (record { name = id; insts = insts }))
 first_shape {zero = zero} {one = one} {two = two} {three = three} {params = params} {label = label} {id = id} insts g =
     let row : map (param_shape one) params ≡ map (param_shape zero) params = shapes_kept params_keep g.entry params g.params_known in
     let lines : map (inst_shape three) insts.items ≡ map (inst_shape one) insts.items = shapes_kept insts_keep (grows_on g.naming g.more) insts.items g.insts_known in

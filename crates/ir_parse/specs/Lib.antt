@@ -1,3 +1,4 @@
 pub mod Shapes
+pub mod Drafts
 pub mod Spots
 pub mod Answers

@@ -42,25 +42,40 @@ HasLinesAt text toks _ spots = spots ≡ []
 abbrev pub IsItemAt : List ℕ → List Token → ItemShape → Place → Type 0
 IsItemAt text toks v place = item (symbols_of text toks) v × (place.spot ≡ start_of toks) × HasLinesAt text toks v place.lines
 
--- the places of each kind of item, in text order
-pub record Places : Type 0 where
-  pub types : List Place
-  pub globals : List Place
-  pub declares : List Place
-  pub functions : List Place
+-- the spots of each kind of item, in text order
+pub record SpotLists : Type 0 where
+  pub types : List ℕ
+  pub globals : List ℕ
+  pub declares : List ℕ
+  pub functions : List ℕ
+  pub insts : List (List (List ℕ))
 
-abbrev pub with_place : ItemShape → Place → Places → Places
-with_place (type_item v) p ps = record { types = p ∷ ps.types; globals = ps.globals; declares = ps.declares; functions = ps.functions }
-with_place (global_item v) p ps = record { types = ps.types; globals = p ∷ ps.globals; declares = ps.declares; functions = ps.functions }
-with_place (declare_item v) p ps = record { types = ps.types; globals = ps.globals; declares = p ∷ ps.declares; functions = ps.functions }
-with_place (function_item v) p ps = record { types = ps.types; globals = ps.globals; declares = ps.declares; functions = p ∷ ps.functions }
+abbrev pub with_spot : ItemShape → Place → SpotLists → SpotLists
+with_spot (type_item v) p s = record { types = p.spot ∷ s.types; globals = s.globals; declares = s.declares; functions = s.functions; insts = s.insts }
+with_spot (global_item v) p s = record { types = s.types; globals = p.spot ∷ s.globals; declares = s.declares; functions = s.functions; insts = s.insts }
+with_spot (declare_item v) p s = record { types = s.types; globals = s.globals; declares = p.spot ∷ s.declares; functions = s.functions; insts = s.insts }
+with_spot (function_item v) p s = record { types = s.types; globals = s.globals; declares = s.declares; functions = p.spot ∷ s.functions; insts = p.lines ∷ s.insts }
 
-abbrev pub places_of : List ItemShape → List Place → Places
-places_of (v ∷ vs) (p ∷ ps) = with_place v p (places_of vs ps)
-places_of _ _ = record { types = []; globals = []; declares = []; functions = [] }
+abbrev pub spots_of : List ItemShape → List Place → SpotLists
+spots_of (v ∷ vs) (p ∷ ps) = with_spot v p (spots_of vs ps)
+spots_of _ _ = record { types = []; globals = []; declares = []; functions = []; insts = [] }
 
-abbrev pub spots_in : List Place → List ℕ
-spots_in ps = map (λ p. p.spot) ps
+-- the same with the item last
+abbrev pub with_last_spot : ItemShape → Place → SpotLists → SpotLists
+with_last_spot (type_item v) p s = record { types = s.types ++ p.spot ∷ []; globals = s.globals; declares = s.declares; functions = s.functions; insts = s.insts }
+with_last_spot (global_item v) p s = record { types = s.types; globals = s.globals ++ p.spot ∷ []; declares = s.declares; functions = s.functions; insts = s.insts }
+with_last_spot (declare_item v) p s = record { types = s.types; globals = s.globals; declares = s.declares ++ p.spot ∷ []; functions = s.functions; insts = s.insts }
+with_last_spot (function_item v) p s = record { types = s.types; globals = s.globals; declares = s.declares; functions = s.functions ++ p.spot ∷ []; insts = s.insts ++ p.lines ∷ [] }
+
+-- the lists that are kept of a module
+abbrev pub lists_of : Spots → SpotLists
+lists_of s = record {
+  types = s.types.items;
+  globals = s.globals.items;
+  declares = s.declares.items;
+  functions = s.functions.items;
+  insts = map (λ f. map (λ b. b.items) f.items) s.insts.items;
+}
 
 -- the spots are those of a cut of all tokens into the module's items
 pub record AreSpots (text : List ℕ) (toks : List Token) (m : ModuleShape) (spots : Spots) : Type 0 where
@@ -68,8 +83,4 @@ pub record AreSpots (text : List ℕ) (toks : List Token) (m : ModuleShape) (spo
   pub places : List Place
   pub is_module : m ≡ module_of items
   pub pieces : InPieces (IsItemAt text) toks items places
-  pub types : spots.types.items ≡ spots_in (places_of items places).types
-  pub globals : spots.globals.items ≡ spots_in (places_of items places).globals
-  pub declares : spots.declares.items ≡ spots_in (places_of items places).declares
-  pub functions : spots.functions.items ≡ spots_in (places_of items places).functions
-  pub insts : map (λ f. map (λ b. b.items) f.items) spots.insts.items ≡ map (λ p. p.lines) (places_of items places).functions
+  pub spotted : lists_of spots ≡ spots_of items places

@@ -134,7 +134,10 @@ fn more_blocks_at(
             return Ok((Blocks { blocks, spots }, end));
         }
         let (read, after_block) = block_at(alloc, text, toks, next, budget, names)?;
-        let LabelledBlock { block, spots: lines } = read;
+        let LabelledBlock {
+            block,
+            spots: lines,
+        } = read;
         blocks.push(block)?;
         spots.push(lines)?;
         next = after_block;
@@ -165,7 +168,10 @@ fn blocks_at(
 {
     let (entry, after_entry) = entry_at(alloc, text, toks, at, budget, names)?;
     let EntryBlock { label, lines } = entry;
-    let Lines { insts, spots: entry_spots } = lines;
+    let Lines {
+        insts,
+        spots: entry_spots,
+    } = lines;
     let name = first_name(alloc, params, label, names)?;
     let (more, end) = more_blocks_at(alloc, text, toks, after_entry, budget, names)?;
     let Blocks {
@@ -197,8 +203,7 @@ pub fn function_line_at(
     ensures spots { IfOk result (λ x. IsFunctionAt text.now (slice_range toks.now at x.1) (function_of_shape names.new x.0) (map (λ v. v.items) x.0.spots.items)) }
 {
     let after_word = define_at(text, toks, at)?;
-    let (signature, after_signature) =
-        signature_at(alloc, text, toks, after_word, budget, names)?;
+    let (signature, after_signature) = signature_at(alloc, text, toks, after_word, budget, names)?;
     let Signature { ret, name, params } = signature;
     let after_brace = mark_at(text, toks, after_signature, b'{')?;
     let (body, end) = blocks_at(alloc, text, toks, after_brace, budget, &params, names)?;

@@ -7,8 +7,10 @@ ghost use Rattle.ir_tree.specs.Known.{module_known};
 ghost use Rattle.ir_parse.specs.Answers.{Parses};
 ghost use Rattle.ir_parse.specs.Spots.{AreSpots};
 
+mod draft;
 mod error;
 mod functions;
+mod items;
 
 pub use error::ParseError;
 use ir_lex::Token;

@@ -30,7 +30,7 @@ returns-clause-reads c =
     let ts = drop c.args.at ss in
     let names = c.arguments_at.new.names in
     let rest = run_skip (punct 40) (run_listed n (punct 44) (punct 41) (run_ty_val n)) in (
-      map_read call_of (run_seq (run_ty n) (run_seq (run_one global_name) rest)) {ts = ts}
+      map_read call_of (run_seq (run_ty n) (run_seq (run_one global_name) rest)) ts
           (three_read tys_keep names_keep c.in_ok-callee.ensures.grows c.in_ok-arguments.ensures.grows c.in_ok-ty.ty c.in_ok-callee.callee c.in_ok-ty.ensures.known c.in_ok-callee.ensures.known
           (run_ty n) (run_one global_name) rest ts c.in_ok-ty.ensures.reads.0 c.in_ok-callee.ensures.reads.0
           (skip_read (punct 40) (run_listed n (punct 44) (punct 41) (run_ty_val n)) (drop c.in_ok-callee.next ss) c.in_ok-next.ensures.steps.0 c.in_ok-arguments.ensures.reads.0))

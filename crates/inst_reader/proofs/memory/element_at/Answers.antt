@@ -21,8 +21,8 @@ returns-clause-reads c =
     let ss = symbols_of c.args.text.now c.args.toks.now in
     let rest = run_many n (heads (punct 44)) (run_more_ty_val n) in
     let parts = run_seq (run_ty n) (run_seq (run_more_ty_val n) rest) in (
-      map_read element_of (run_seq (run_address_flags n) parts) {ts = drop c.args.at ss}
-          (seq_plain (run_address_flags n) parts {ts = drop c.args.at ss} c.flags_at-inbounds.ensures.reads
+      map_read element_of (run_seq (run_address_flags n) parts) (drop c.args.at ss)
+          (seq_plain (run_address_flags n) parts (drop c.args.at ss) c.flags_at-inbounds.ensures.reads
           (three_read tys_keep ty_vals_keep c.in_ok-base.ensures.grows c.in_ok-indices.ensures.grows c.in_ok-ty.ty c.in_ok-base.base c.in_ok-ty.ensures.known c.in_ok-base.ensures.known
           (run_ty n) (run_more_ty_val n) rest (drop c.flags_at-inbounds.result.1 ss) c.in_ok-ty.ensures.reads.0 c.in_ok-base.ensures.reads.0 c.in_ok-indices.ensures.reads.0)),
       c.in_ok-indices.ensures.reads.1,

@@ -15,7 +15,7 @@ pub returns-clause-reads : goal.returns-clause-reads
 returns-clause-reads c =
     let n = c.args.budget in
     let ts = drop c.args.at (symbols_of c.args.text.now c.args.toks.now) in (
-      map_read (λ v. shape.load v.0 v.1) (run_seq (run_ty n) (run_more_ty_val n)) {ts = ts}
-          (seq_read tys_keep c.in_ok-address.ensures.grows (run_ty n) (run_more_ty_val n) c.in_ok-ty.ty c.in_ok-ty.ensures.known c.in_ok-ty.ensures.reads.0 c.in_ok-address.ensures.reads.0),
+      map_read (λ v. shape.load v.0 v.1) (run_seq (run_ty n) (run_more_ty_val n)) ts
+          (seq_read tys_keep c.in_ok-address.ensures.grows (run_ty n) (run_more_ty_val n) ts c.in_ok-ty.ty c.in_ok-ty.ensures.known c.in_ok-ty.ensures.reads.0 c.in_ok-address.ensures.reads.0),
       c.in_ok-address.ensures.reads.1,
     )

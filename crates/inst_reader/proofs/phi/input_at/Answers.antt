@@ -18,9 +18,9 @@ returns-clause-reads c =
     let both = run_map phi_input_of (run_seq (run_val n) from) in
     let ts = drop c.in_ok-next.next ss in (
       skip_read (punct 91) (run_up_to (punct 93) both) (drop c.args.at ss) c.in_ok-next.ensures.steps.0
-          (up_to_read (punct 93) both {ts = ts}
-          (map_read phi_input_of (run_seq (run_val n) from) {ts = ts}
-          (seq_read vals_keep c.in_ok-from.ensures.grows (run_val n) from {ts = ts} c.in_ok-val.val c.in_ok-val.ensures.known c.in_ok-val.ensures.reads.0
+          (up_to_read (punct 93) both ts
+          (map_read phi_input_of (run_seq (run_val n) from) ts
+          (seq_read vals_keep c.in_ok-from.ensures.grows (run_val n) from ts c.in_ok-val.val c.in_ok-val.ensures.known c.in_ok-val.ensures.reads.0
           (skip_read (punct 44) (run_one local_name) (drop c.in_ok-val.next ss) c.in_ok-next-2.ensures.steps.0 c.in_ok-from.ensures.reads.0)))
           c.in_ok-end.ensures.steps.0),
       c.in_ok-end.ensures.steps.1,

@@ -17,7 +17,7 @@ returns-clause-reads c =
     let ss = symbols_of c.args.text.now c.args.toks.now in
     let parts = run_seq (run_ty n) (run_phi_inputs n) in (
       skip_read phi_word (run_map (λ v. shape.phi v.0 v.1) parts) (drop c.args.at ss) c.in_ok-next.ensures.steps.0
-          (map_read (λ v. shape.phi v.0 v.1) parts {ts = drop c.in_ok-next.next ss}
-          (seq_read tys_keep c.in_ok-inputs.ensures.grows (run_ty n) (run_phi_inputs n) c.in_ok-ty.ty c.in_ok-ty.ensures.known c.in_ok-ty.ensures.reads.0 c.in_ok-inputs.ensures.reads.0)),
+          (map_read (λ v. shape.phi v.0 v.1) parts (drop c.in_ok-next.next ss)
+          (seq_read tys_keep c.in_ok-inputs.ensures.grows (run_ty n) (run_phi_inputs n) (drop c.in_ok-next.next ss) c.in_ok-ty.ty c.in_ok-ty.ensures.known c.in_ok-ty.ensures.reads.0 c.in_ok-inputs.ensures.reads.0)),
       c.in_ok-inputs.ensures.reads.1,
     )
