@@ -1,8 +1,6 @@
 -- Where the readers of types, constants, operands, instructions and lines give a value, a front of the list spells it.
-use Rattle.std.proofs.Common.{◌≡◌, ℕ, Bool, List}
-use Rattle.ir_grammar.specs.Language.{Lang, map_to, or_else}
+use Rattle.std.proofs.Common.{ℕ}
 use Rattle.ir_grammar.specs.Reader.{Reader, heads}
-use Rattle.ir_grammar.proofs.Good.{Within}
 use Rattle.ir_tree.specs.Shape.{TyShape, ConstShape}
 use Rattle.ir_lex.specs.Symbols.{Symbol, number_in}
 use Rattle.ir_symbols.specs.Marks.{punct}
