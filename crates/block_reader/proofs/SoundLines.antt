@@ -25,7 +25,7 @@ sound_ty_rest n r g ArrayOpen = sound_map _ (sound_up_to (punct 93) (sound_seq (
 sound_ty_rest n r g FieldsOpen = sound_map _ (sound_listed n (punct 44) (punct 125) g)
 sound_ty_rest n r g PackedOpen = sound_skip (punct 123) (sound_map _ (sound_up_to (punct 62) (sound_listed n (punct 44) (punct 125) g)))
 
-sound_ty : (n : ℕ) → Sound ty (run_ty n)
+pub sound_ty : (n : ℕ) → Sound ty (run_ty n)
 sound_ty = sound_recursive ty_rule run_ty_rule regular_ty (λ n r g. sound_pick ty_head (sound_ty_rest n r g))
 
 -- constants
@@ -47,15 +47,15 @@ sound_const_rest n r g ValuesOpen = sound_map _ (sound_listed n (punct 44) (punc
 sound_const_rest n r g PackedValuesOpen = sound_skip (punct 123) (sound_map _ (sound_up_to (punct 62) (sound_listed n (punct 44) (punct 125) (sound_typed n r g))))
 sound_const_rest n r g AddressOpen = sound_map _ (sound_seq (sound_flags n) (sound_skip (punct 40) (sound_operands n r g)))
 
-sound_const : (n : ℕ) → Sound const (run_const n)
+pub sound_const : (n : ℕ) → Sound const (run_const n)
 sound_const = sound_recursive const_rule run_const_rule regular_const (λ n r g. sound_pick const_head (sound_const_rest n r g))
 
 -- operands
 
-sound_val : (n : ℕ) → Sound val (run_val n)
+pub sound_val : (n : ℕ) → Sound val (run_val n)
 sound_val n = sound_or (heads local_name) (sound_map _ (sound_one local_name)) (sound_map _ (sound_const n))
 
-sound_ty_val : (n : ℕ) → Sound ty_val (run_ty_val n)
+pub sound_ty_val : (n : ℕ) → Sound ty_val (run_ty_val n)
 sound_ty_val n = sound_map _ (sound_seq (sound_ty n) (sound_val n))
 
 sound_more_ty_val : (n : ℕ) → Sound more_ty_val (run_more_ty_val n)
@@ -73,7 +73,7 @@ sound_phi_input : (n : ℕ) → Sound phi_input (run_phi_input n)
 sound_phi_input n =
     sound_skip (punct 91) (sound_up_to (punct 93) (sound_map _ (sound_seq (sound_val n) (sound_skip (punct 44) (sound_one local_name)))))
 
-sound_phi : (n : ℕ) → Sound phi (run_phi n)
+pub sound_phi : (n : ℕ) → Sound phi (run_phi n)
 sound_phi n =
     sound_skip phi_word (sound_map _ (sound_seq (sound_ty n)
     (sound_map _ (sound_seq (sound_phi_input n) (sound_many n (heads (punct 44)) (sound_skip (punct 44) (sound_phi_input n)))))))
@@ -102,7 +102,7 @@ sound_inst_rest n ElementWord =
 sound_inst_rest n CallWord =
     sound_map _ (sound_seq (sound_ty n) (sound_seq (sound_one global_name) (sound_skip (punct 40) (sound_listed n (punct 44) (punct 41) (sound_ty_val n)))))
 
-sound_inst : (n : ℕ) → Sound inst (run_inst n)
+pub sound_inst : (n : ℕ) → Sound inst (run_inst n)
 sound_inst n = sound_pick inst_head (sound_inst_rest n)
 
 -- terminators
@@ -131,7 +131,7 @@ sound_term n = sound_pick term_head (sound_term_rest n)
 
 -- lines
 
-sound_result : Sound result run_result
+pub sound_result : Sound result run_result
 sound_result = sound_up_to (punct 61) (sound_one local_name)
 
 pub sound_phi_line : (n : ℕ) → Sound phi_line (run_phi_line n)
