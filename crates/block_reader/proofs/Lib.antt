@@ -1,6 +1,7 @@
 pub mod LineByLine
 pub mod Sound
 pub mod SoundLines
+pub mod SoundBlocks
 pub mod Pieces
 pub mod MarksAhead
 pub mod LineParts

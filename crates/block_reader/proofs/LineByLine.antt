@@ -1,5 +1,5 @@
 -- The reader of a block's lines goes on line by line.
-use Rattle.std.proofs.Common.{◌≡◌, ℕ, zero, suc, Bool, true, false, ◌||◌, List, [], ◌∷◌, ◌++◌, Option, None, Some, refl, sym, ◌∙◌, ap}
+use Rattle.std.proofs.Common.{◌≡◌, ℕ, zero, suc, Bool, true, false, List, [], ◌∷◌, ◌++◌, Option, None, Some, refl, ◌∙◌, ap}
 use Rattle.ir_grammar.specs.Language.{cons}
 use Rattle.ir_grammar.specs.Reader.{Out, Got, Wrong, Reader, then_out, heads, opens, run_seq, run_map, run_maybe, run_or, run_many}
 use Rattle.ir_grammar.proofs.Loops.{after, after_one}

@@ -9,7 +9,6 @@ use Rattle.ir_tree.specs.ShapeOf.{name_shape, body_shape, inst_shape}
 use Rattle.ir_tree.specs.Known.{result_known, body_known, inst_known}
 use Rattle.ir_tree.specs.declared.names.NameId.{NameId}
 use Rattle.ir_tree.specs.declared.module.Body.{Body}
-use Rattle.ir_tree.specs.declared.module.Inst.{Inst}
 use Rattle.ir_tree.proofs.Grows.{and_both}
 use Rattle.ir_tree.proofs.GrowsModule.{result_shape-append, result_known-more}
 use Rattle.type_reader.proofs.NamedItems.{grows_length}

@@ -1,5 +1,5 @@
 -- The lines so far: their names are known, and the tokens up to the next line are theirs.
-use Rattle.std.proofs.Common.{◌≡◌, ℕ, suc, false, ◌+◌, ◌<◌, ◌≤◌, Bool, true, List, [], ◌∷◌, ◌++◌, length, map, drop, None, inl, inr, refl, sym, ◌∙◌, ap, subst, arith}
+use Rattle.std.proofs.Common.{◌≡◌, ℕ, suc, false, ◌+◌, ◌<◌, ◌≤◌, true, List, [], ◌∷◌, ◌++◌, length, map, drop, None, inl, inr, refl, sym, ◌∙◌, ap, subst, arith}
 use Rattle.std.specs.List.{slice_range, list_all}
 use Rattle.ir_grammar.specs.Language.{cons}
 use Rattle.ir_grammar.specs.Reader.{Got, Wrong, heads, opens, run_seq, run_map}
@@ -19,16 +19,15 @@ use Rattle.ir_tree.specs.declared.module.Inst.{Inst}
 use Rattle.ir_tree.specs.declared.module.Body.{Body}
 use Rattle.ir_tree.proofs.GrowsModule.{inst_shape-append, inst_known-more}
 use Rattle.ir_tree.proofs.Table.{grows_on, grows_same}
-use Rattle.type_reader.proofs.NamedItems.{Keeps, known_more, shapes_more, grows_length}
+use Rattle.type_reader.proofs.NamedItems.{Keeps, known_more, shapes_more}
 use Rattle.inst_grammar.specs.Terminators.{term_head, term, run_term}
-use Rattle.module_grammar.specs.Blocks.{line_of, phi_line, inst_line, begins_inst, run_inst_line, run_last_line, run_after_phis, run_lines}
+use Rattle.module_grammar.specs.Blocks.{line_of, phi_line, begins_inst, run_inst_line, run_last_line, run_after_phis, run_lines}
 use Rattle.module_grammar.proofs.BlockLaw.{starts_result, starts_phi, starts_inst_line}
 use Rattle.block_reader.specs.Lines.{is_phi_line, run_phi_line, run_others, lines_behind, AreLinesAt}
 use Rattle.block_reader.specs.Spots.{start_of, InPieces, IsLineAt}
 use Rattle.block_reader.specs.Shapes.{lines_shape, lines_known}
 use Rattle.block_reader.specs.declared.Lines.{Lines}
 use Rattle.block_reader.proofs.LineByLine.{lines_with_phi, lines_without_phi, no_lines, line_then, line_wrong, rest_by, rest_next, rest_wrong, rest_last, rest_end}
-use Rattle.block_reader.proofs.Sound.{Sound}
 use Rattle.block_reader.proofs.SoundLines.{sound_phi_line, sound_inst_line, sound_term}
 use Rattle.block_reader.proofs.Pieces.{pieces_more, slices_joined, no_slice, slice_spelled, goes_past, start_of_slice}
 

@@ -1,10 +1,10 @@
 -- The tokens of lines: pieces one behind another, each of which spells a line and begins at its spot.
-use Rattle.std.proofs.Common.{◌≡◌, ℕ, suc, ◌+◌, ◌-◌, ◌<◌, ◌≤◌, Bool, true, List, [], ◌∷◌, ◌++◌, length, take, drop, Option, None, refl, sym, ◌∙◌, ap, subst, arith, append_assoc, length-append, length-drop, inl, inr}
+use Rattle.std.proofs.Common.{◌≡◌, ℕ, suc, ◌+◌, ◌-◌, ◌<◌, ◌≤◌, Bool, true, List, [], ◌∷◌, ◌++◌, length, take, drop, refl, sym, ◌∙◌, ap, subst, arith, append_assoc, length-append, length-drop}
 use Rattle.std.specs.List.{slice_range}
 use Rattle.std.specs.List as lists
 use Rattle.std.proofs.lemmas.List.{drop-drop, append-nil}
 use Rattle.std.proofs.Math.Seq.{take-add, take-append_seam}
-use Rattle.ir_grammar.specs.Language.{Lang, map_to, or_else}
+use Rattle.ir_grammar.specs.Language.{Lang}
 use Rattle.ir_grammar.specs.Reader.{Reader, Got, opens}
 use Rattle.ir_grammar.proofs.Good.{Starts}
 use Rattle.ir_lex.specs.Symbols.{Symbol, symbol_of, symbols_of}

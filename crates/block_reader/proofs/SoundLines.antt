@@ -1,8 +1,6 @@
 -- Where the readers of types, constants, operands, instructions and lines give a value, a front of the list spells it.
-use Rattle.std.proofs.Common.{◌≡◌, ℕ, Bool, List}
-use Rattle.ir_grammar.specs.Language.{Lang, map_to, or_else}
+use Rattle.std.proofs.Common.{ℕ}
 use Rattle.ir_grammar.specs.Reader.{Reader, heads}
-use Rattle.ir_grammar.proofs.Good.{Within}
 use Rattle.ir_tree.specs.Shape.{TyShape, ConstShape}
 use Rattle.ir_lex.specs.Symbols.{Symbol, number_in}
 use Rattle.ir_symbols.specs.Marks.{punct}
@@ -54,10 +52,10 @@ sound_const = sound_recursive const_rule run_const_rule regular_const (λ n r g.
 
 -- operands
 
-sound_val : (n : ℕ) → Sound val (run_val n)
+pub sound_val : (n : ℕ) → Sound val (run_val n)
 sound_val n = sound_or (heads local_name) (sound_map _ (sound_one local_name)) (sound_map _ (sound_const n))
 
-sound_ty_val : (n : ℕ) → Sound ty_val (run_ty_val n)
+pub sound_ty_val : (n : ℕ) → Sound ty_val (run_ty_val n)
 sound_ty_val n = sound_map _ (sound_seq (sound_ty n) (sound_val n))
 
 sound_more_ty_val : (n : ℕ) → Sound more_ty_val (run_more_ty_val n)
@@ -75,7 +73,7 @@ sound_phi_input : (n : ℕ) → Sound phi_input (run_phi_input n)
 sound_phi_input n =
     sound_skip (punct 91) (sound_up_to (punct 93) (sound_map _ (sound_seq (sound_val n) (sound_skip (punct 44) (sound_one local_name)))))
 
-sound_phi : (n : ℕ) → Sound phi (run_phi n)
+pub sound_phi : (n : ℕ) → Sound phi (run_phi n)
 sound_phi n =
     sound_skip phi_word (sound_map _ (sound_seq (sound_ty n)
     (sound_map _ (sound_seq (sound_phi_input n) (sound_many n (heads (punct 44)) (sound_skip (punct 44) (sound_phi_input n)))))))
@@ -104,7 +102,7 @@ sound_inst_rest n ElementWord =
 sound_inst_rest n CallWord =
     sound_map _ (sound_seq (sound_ty n) (sound_seq (sound_one global_name) (sound_skip (punct 40) (sound_listed n (punct 44) (punct 41) (sound_ty_val n)))))
 
-sound_inst : (n : ℕ) → Sound inst (run_inst n)
+pub sound_inst : (n : ℕ) → Sound inst (run_inst n)
 sound_inst n = sound_pick inst_head (sound_inst_rest n)
 
 -- terminators
@@ -133,7 +131,7 @@ sound_term n = sound_pick term_head (sound_term_rest n)
 
 -- lines
 
-sound_result : Sound result run_result
+pub sound_result : Sound result run_result
 sound_result = sound_up_to (punct 61) (sound_one local_name)
 
 pub sound_phi_line : (n : ℕ) → Sound phi_line (run_phi_line n)

@@ -83,7 +83,10 @@ pub fn lines_at(
         (run_lines budget (drop at (symbols_of text.now toks.now))) }
     ensures spots { IfOk result (λ x. InPieces (IsLineAt text.now) (slice_range toks.now at x.1) (lines_shape names.new x.0) x.0.spots.items) }
 {
-    let mut lines = Lines { insts: Vec::new(alloc), spots: Vec::new(alloc) };
+    let mut lines = Lines {
+        insts: Vec::new(alloc),
+        spots: Vec::new(alloc),
+    };
     let mut next = at;
     for read in 0..budget {
         let left = budget - read;
@@ -117,8 +120,17 @@ pub fn block_at(
 {
     let (name, first) = label_at(alloc, text, toks, at, names)?;
     let (lines, end) = lines_at(alloc, text, toks, first, budget, names)?;
-    let block = Block { name, insts: lines.insts };
-    Ok((LabelledBlock { block, spots: lines.spots }, end))
+    let block = Block {
+        name,
+        insts: lines.insts,
+    };
+    Ok((
+        LabelledBlock {
+            block,
+            spots: lines.spots,
+        },
+        end,
+    ))
 }
 
 /// The first block of a function at `at`, and the number of the token behind it. At most `budget` tokens are read.

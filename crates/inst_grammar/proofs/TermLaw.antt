@@ -76,10 +76,10 @@ void_spelled : ty (KeywordSymbol Void ∷ []) void
 void_spelled = (recursive_in ty_rule regular_ty).at (KeywordSymbol Void ∷ []) void (KeywordSymbol Void, [], WholeType void, refl, refl, (refl, refl))
 
 -- what follows `ret`, so that the first symbol decides: after `void` there may be a value
-abbrev pub void_return : Lang Symbol BodyShape
+abbrev void_return : Lang Symbol BodyShape
 void_return = skip void_word (map_to return_of (maybe val))
 
-abbrev pub decided : Lang Symbol BodyShape
+abbrev decided : Lang Symbol BodyShape
 decided = or_else void_return (map_to return_value ty_val)
 
 -- a type and a value that begin with `void` are `void` and a value

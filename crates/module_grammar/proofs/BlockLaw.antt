@@ -20,7 +20,7 @@ use Rattle.inst_grammar.proofs.TermLaw.{good_term}
 use Rattle.module_grammar.specs.Blocks.{label_name, result, line_of, inst_line, last_of, last_line, after_phis, lines, block_of, block, first_block, line_word, told_lines, run_result, begins_inst, run_inst_line, run_last_line, run_after_phis, begins_word, run_line_word, run_told_lines, run_lines, run_block, run_first_block}
 use Rattle.module_grammar.proofs.LinesToldApart.{lines_in, lines_out}
 
-pub good_result : (n : ℕ) → Good n result run_result never
+good_result : (n : ℕ) → Good n result run_result never
 good_result n = good_closed_by 61 refl (good_name n never)
 
 pub starts_result : Starts (heads local_name) result
@@ -46,15 +46,15 @@ pub starts_inst_line : Starts begins_inst inst_line
 starts_inst_line =
     starts_map line_of (starts_maybe (starts_more begins_inst named_inst starts_result) (starts_more begins_inst bare_inst starts_inst))
 
-pub starts_last : Starts (heads term_head) last_line
+starts_last : Starts (heads term_head) last_line
 starts_last = starts_map last_of (starts_pick term_head _)
 
 -- no instruction begins with a Local
-pub inst_unnamed : (t : Symbol) → heads inst_head t ≡ true → heads local_name t ≡ false
+inst_unnamed : (t : Symbol) → heads inst_head t ≡ true → heads local_name t ≡ false
 inst_unnamed (LocalSymbol name) h = cc
 inst_unnamed _ h = refl
 
-pub good_inst_line : (n : ℕ) → Good n inst_line (run_inst_line n) (heads (punct 44))
+good_inst_line : (n : ℕ) → Good n inst_line (run_inst_line n) (heads (punct 44))
 good_inst_line n =
     good_map line_of (good_seq (joins_starts starts_inst inst_unnamed)
     (good_maybe (heads local_name) starts_result (λ t h. h) (good_closed (heads local_name) (good_result n))) (good_inst n))
@@ -79,7 +79,7 @@ term_ends : (t : Symbol) → heads term_head t ≡ true → goes_on t ≡ false
 term_ends (KeywordSymbol Unreachable) h = refl
 term_ends _ h = cc
 
-pub good_last : (n : ℕ) → Good n last_line (run_last_line n) begins_val
+good_last : (n : ℕ) → Good n last_line (run_last_line n) begins_val
 good_last n = good_map last_of (good_term n)
 
 good_after : (n : ℕ) → Good n after_phis (run_after_phis n) begins_val
