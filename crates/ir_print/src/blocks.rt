@@ -1,6 +1,6 @@
 //! Lines and blocks, appended part by part.
 
-ghost use Rattle.std.specs.Prelude.{◌≡◌, ◌++◌, ◌∷◌, [], List, ℕ, map, option_map, OnOk};
+ghost use Rattle.std.specs.Prelude.{◌≡◌, ◌++◌, map, option_map, OnOk};
 ghost use Rattle.std.specs.List.{flat_map};
 ghost use Rattle.ir_tree.specs.ShapeOf.{name_shape, body_shape, inst_shape, block_shape};
 ghost use Rattle.ir_print.specs.Texts.{body_text, result_text, line_text, block_text};

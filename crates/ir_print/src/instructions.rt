@@ -1,7 +1,6 @@
 //! Phis and instructions, appended part by part.
 
 ghost use Rattle.std.specs.Prelude.{◌≡◌, ◌++◌, ◌∷◌, [], List, ℕ, false, map, OnOk};
-ghost use Rattle.ir_words.specs.declared.words.Keyword.TheVariants.{InBounds};
 ghost use Rattle.ir_tree.specs.Shape.{phi, binary, icmp, select, convert, freeze, alloca, load, store, get_element, call};
 ghost use Rattle.ir_tree.specs.ShapeOf.{ty_shape, const_shape, val_shape, ty_val_shape, phi_in_shape};
 ghost use Rattle.inst_grammar.specs.Spelling.{bin_word, pred_word, conv_word};

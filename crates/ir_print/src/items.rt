@@ -1,11 +1,11 @@
 //! Items, appended part by part.
 
-ghost use Rattle.std.specs.Prelude.{◌≡◌, ◌++◌, ◌∷◌, [], List, ℕ, false, map, option_map, OnOk};
+ghost use Rattle.std.specs.Prelude.{◌≡◌, ◌++◌, ◌∷◌, [], false, map, option_map, OnOk};
 ghost use Rattle.std.specs.List.{flat_map};
 ghost use Rattle.ir_tree.specs.ShapeOf.{module_shape, name_shape, ty_shape, param_shape, named_ty_shape, global_shape, declare_shape, function_shape};
 ghost use Rattle.module_grammar.specs.Spelling.{constancy_word};
 ghost use Rattle.const_printer.specs.Texts.{in_row};
-ghost use Rattle.ir_print.specs.Texts.{type_text, global_text, name_part, parameter_text, signature_text, type_line, global_line, declare_line, function_text, items_text};
+ghost use Rattle.ir_print.specs.Texts.{type_text, global_text, name_part, parameter_text, type_line, global_line, declare_line, function_text, items_text};
 
 use crate::blocks::push_blocks;
 use crate::operands::{

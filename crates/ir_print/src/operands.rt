@@ -1,6 +1,6 @@
 //! Words, names, types and operands, appended part by part.
 
-ghost use Rattle.std.specs.Prelude.{◌≡◌, ◌++◌, ◌∷◌, [], List, ℕ, map, OnOk};
+ghost use Rattle.std.specs.Prelude.{◌≡◌, ◌++◌, ◌∷◌, map, OnOk};
 ghost use Rattle.ir_tree.specs.ShapeOf.{name_shape, ty_shape, const_shape, val_shape, ty_val_shape};
 ghost use Rattle.const_printer.specs.Texts.{in_row};
 ghost use Rattle.ir_print.specs.Texts.{word_text, local_text, global_text, label_text, number_text, type_text, constant_text, value_text, typed_text, two_text, target_text};

@@ -1,6 +1,6 @@
 //! Terminators, appended part by part.
 
-ghost use Rattle.std.specs.Prelude.{◌≡◌, ◌++◌, ◌∷◌, [], List, ℕ, false, map, OnOk};
+ghost use Rattle.std.specs.Prelude.{◌≡◌, ◌++◌, false, map, OnOk};
 ghost use Rattle.ir_tree.specs.Shape.{jump, branch, switch, return_void, return_value};
 ghost use Rattle.ir_tree.specs.ShapeOf.{name_shape, ty_val_shape, case_shape};
 ghost use Rattle.ir_print.specs.Texts.{case_text, blank, in_spaces, body_text};
