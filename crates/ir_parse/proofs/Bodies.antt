@@ -182,7 +182,7 @@ function_known_of g ret name params blocks known_ret known_name known_params kno
 sound_parameter : (n : ℕ) → Sound parameter (run_parameter n)
 sound_parameter n = sound_map parameter_of (sound_seq (sound_ty n) (sound_maybe (heads local_name) (sound_one local_name)))
 
-sound_signature : (n : ℕ) → Sound signature (run_signature n)
+pub sound_signature : (n : ℕ) → Sound signature (run_signature n)
 sound_signature n = sound_seq (sound_ty n) (sound_seq (sound_one global_name) (sound_skip (punct 40) (sound_listed n (punct 44) (punct 41) (sound_parameter n))))
 
 -- the tokens of a function

@@ -2,6 +2,9 @@
 use Rattle.std.specs.Prelude.{◌≡◌, ℕ, ◌+◌, ◌<◌, ◌≤◌, List, ◌++◌, length, drop, take, Result, Ok, Err}
 use Rattle.ir_grammar.specs.Reader.{Wrong}
 use Rattle.ir_grammar.specs.FirstWrong.{ReadsAll}
+use Rattle.ir_grammar.specs.declared.Stop.{Stop}
+use Rattle.ir_grammar.specs.declared.Stop.TheVariants.{WrongSymbol}
+use Rattle.ir_grammar.specs.declared.Stop.TheVariants as stop
 use Rattle.ir_tree.specs.ShapeOf.{module_shape}
 use Rattle.ir_tree.specs.declared.parsed.Parsed.{Parsed}
 use Rattle.ir_lex.specs.Symbols.{Symbol, symbols_of}
@@ -15,6 +18,12 @@ use Rattle.ir_parse.specs.declared.error.ParseError.TheVariants.{Deep, Syntax, O
 -- at most 64 brackets are open at once
 abbrev pub AreShallow : List Symbol → Type 0
 AreShallow ss = (front rest : List Symbol) → ss ≡ front ++ rest → IsTooDeep 0 front → ⊥
+
+-- the module that the tokens spell, all of them, or the number of the first wrong one; want of memory may come at any time
+abbrev pub ReadsWhole : List ℕ → List Token → Result Parsed Stop → Type 0
+ReadsWhole text toks (Ok parsed) = whole_module (symbols_of text toks) (module_shape parsed.«module»)
+ReadsWhole text toks (Err (WrongSymbol k)) = ReadsAll whole_module (symbols_of text toks) (Wrong (drop k (symbols_of text toks))) × (k ≤ length toks)
+ReadsWhole text toks (Err stop.OutOfMemory) = Unit {0}
 
 -- `Ok`: the module that the tokens spell, and at most 64 brackets are open at once.
 -- `Syntax`: the place of the first wrong token, where the tokens spell no module and at most 64 brackets are open at once.
