@@ -6,3 +6,4 @@ pub mod Modules
 pub mod Rows
 pub mod Carrying
 pub mod PrintableInsts
+pub mod PrintableModules
