@@ -1,11 +1,10 @@
 -- The items of a module: those read so far are what the reader on symbols gives, and their pieces stand one behind another.
-use Rattle.std.proofs.Common.{◌≡◌, ℕ, zero, suc, ◌+◌, ◌-◌, ◌≤◌, ◌<◌, ◌&&◌, Bool, true, false, List, [], ◌∷◌, ◌++◌, length, map, drop, slice_range, refl, sym, ◌∙◌, ap, subst, arith, length-append, Vec}
-use Rattle.std.specs.List.{list_all}
-use Rattle.std.specs.declared.alloc.Global.{Global}
-use Rattle.ir_grammar.specs.Language.{one, skip}
-use Rattle.ir_grammar.specs.Reader.{Got, heads, opens, run_map, run_many}
-use Rattle.ir_grammar.specs.Code.{Gives}
-use Rattle.ir_grammar.proofs.Loops.{ManyLeft, many_start, many_go_on, many_close, many_run_out}
+use Rattle.std.proofs.Common.{◌≡◌, ℕ, zero, suc, ◌+◌, ◌≤◌, ◌<◌, true, false, List, [], ◌∷◌, ◌++◌, length, map, drop, slice_range, refl, sym, ◌∙◌, ap, subst, arith}
+use Rattle.ir_grammar.specs.Reader.{Out, Got, then_out, heads, opens, run_many}
+use Rattle.ir_grammar.specs.Code.{Stops}
+use Rattle.ir_grammar.specs.declared.Stop.{Stop}
+use Rattle.ir_grammar.specs.declared.Stop.TheVariants.{WrongSymbol, OutOfMemory}
+use Rattle.ir_grammar.proofs.Loops.{ManyLeft, many_start, many_go_on, many_stop, many_close, many_run_out}
 use Rattle.ir_lex.specs.Symbols.{Symbol, symbols_of}
 use Rattle.ir_lex.specs.declared.token.Token.{Token}
 use Rattle.ir_symbols.specs.Marks.{punct}
@@ -16,10 +15,10 @@ use Rattle.ir_tree.specs.Known.{named_ty_known, global_known, declare_known, fun
 use Rattle.ir_tree.proofs.Grows.{and_both, and_left, and_right}
 use Rattle.ir_tree.proofs.GrowsModule.{named_ty_shape-append, named_ty_known-more, global_shape-append, global_known-more, declare_shape-append, declare_known-more, function_shape-append, function_known-more}
 use Rattle.inst_grammar.specs.Operands.{local_name, global_name}
-use Rattle.module_grammar.specs.Items.{ItemShape, type_item, global_item, declare_item, function_item, type_word, constancy, declare_word, define_word, blocks, run_blocks, type_of, type_line, run_type_line, global_of, global_line, run_global_line, declare_of, declare_line, run_declare_line, function_of, function, run_function, item, run_item}
+use Rattle.module_grammar.specs.Items.{ItemShape, type_item, global_item, declare_item, function_item, type_word, constancy, declare_word, define_word, blocks, run_blocks, type_of, global_of, declare_of, function_of, item, run_item}
 use Rattle.module_grammar.specs.Modules.{with_item, module_of, begins_item, run_module}
 use Rattle.module_grammar.proofs.ItemLaw.{starts_item}
-use Rattle.type_reader.proofs.NamedItems.{Keeps, shapes_kept, grows_length}
+use Rattle.type_reader.proofs.NamedItems.{Keeps, shapes_kept}
 use Rattle.value_reader.proofs.Parts.{map_read}
 use Rattle.block_reader.specs.Spots.{start_of, InPieces}
 use Rattle.block_reader.proofs.Sound.{Sound, sound_one, sound_skip, sound_map, sound_seq, sound_or, sound_until}
@@ -30,7 +29,7 @@ use Rattle.ir_parse.specs.Spots.{Place, HasLinesAt, IsItemAt, SpotLists, with_sp
 use Rattle.ir_parse.specs.Drafts.{item_shape, item_lines, draft_shape, draft_known, with_last}
 use Rattle.ir_parse.specs.declared.items.Item.{Item}
 use Rattle.ir_parse.specs.declared.draft.Draft.{Draft}
-use Rattle.ir_parse.proofs.Bodies.{sound_signature}
+use Rattle.ir_parse.proofs.Bodies.{all_stay, sound_signature}
 
 sound_blocks : (n : ℕ) → Sound blocks (run_blocks n)
 sound_blocks n = sound_seq (sound_first_block n) (sound_until n (punct 125) (sound_block n))
@@ -71,6 +70,13 @@ draft_kept {old = old} {new = new} g d h =
     ∙ ap (λ z. made (map (named_ty_shape old) d.types.items) z (map (declare_shape new) d.declares.items) (map (function_shape new) d.functions.items)) v
     ∙ ap (λ z. made (map (named_ty_shape old) d.types.items) (map (global_shape old) d.globals.items) z (map (function_shape new) d.functions.items)) e
     ∙ ap (λ z. made (map (named_ty_shape old) d.types.items) (map (global_shape old) d.globals.items) (map (declare_shape old) d.declares.items) z) f
+
+pub draft_stays : {old new : List (List ℕ)} → Grows old new → (d : Draft) → draft_known (length old) d ≡ true → draft_known (length new) d ≡ true
+draft_stays g d h =
+    let first = and_left _ _ h in
+    let second = and_left _ _ first in
+    and_both (and_both (and_both (all_stay types_keep g d.types.items (and_left _ _ second)) (all_stay globals_keep g d.globals.items (and_right _ _ second)))
+    (all_stay declares_keep g d.declares.items (and_right _ _ first))) (all_stay functions_keep g d.functions.items (and_right _ _ h))
 
 -- an item more at the end, and one at the front
 both_ends : (w v : ItemShape) (m : ModuleShape) → with_item w (with_last v m) ≡ with_last v (with_item w m)
@@ -201,3 +207,14 @@ items_run_out g none = items_given g (many_run_out g.left none)
 pub items_spotted : {n : ℕ} {text : List ℕ} {toks : List Token} {names : List (List ℕ)} {d : Draft} {next : ℕ} → ItemsRead n text toks names d next
     → AreSpots text (slice_range toks 0 next) (draft_shape names d) d.spots
 items_spotted g = record { items = g.items; places = g.places; is_module = g.shape; pieces = g.pieces; spotted = g.spotted }
+
+map_stops : {V W : Type 0} (h : V → W) (ss : List Symbol) (o : Out Symbol V) (e : Stop) → Stops ss e o → Stops ss e (then_out o (λ v rest. Got (h v) rest))
+map_stops h ss o (WrongSymbol k) s = (let same = s.0 in rw same refl, s.1)
+map_stops h ss o OutOfMemory s = tt
+
+-- an item is wrong
+pub items_stopped : {n : ℕ} {text : List ℕ} {toks : List Token} {names : List (List ℕ)} {d : Draft} {next : ℕ} → (m : ℕ) → ItemsRead n text toks names d next → n ≡ suc m
+    → opens begins_item (drop next (symbols_of text toks)) ≡ true → (e : Stop) → Stops (symbols_of text toks) e (run_item (length toks) (drop next (symbols_of text toks)))
+    → Stops (symbols_of text toks) e (run_module (length toks) (symbols_of text toks))
+items_stopped {text = text} {toks = toks} m g e there stop h =
+    map_stops module_of (symbols_of text toks) (run_many (length toks) begins_item (run_item (length toks)) (symbols_of text toks)) stop (many_stop m g.left e there stop h)

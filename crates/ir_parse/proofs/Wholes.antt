@@ -1,8 +1,8 @@
 -- From the items of a module to the answer for all tokens; how many spots there are; and where brackets nest too deep.
-use Rattle.std.proofs.Common.{◌≡◌, ℕ, zero, suc, ◌+◌, ◌-◌, ◌≤◌, ◌<◌, List, [], ◌∷◌, ◌++◌, length, map, drop, take, Option, None, Some, Ok, Err, refl, sym, ◌∙◌, ap, subst, arith, Vec}
+use Rattle.std.proofs.Common.{◌≡◌, ℕ, suc, ◌+◌, ◌≤◌, ◌<◌, List, [], ◌∷◌, length, map, drop, take, Option, None, Some, Result, Ok, Err, refl, sym, ◌∙◌, ap, subst, arith, Vec}
 use Rattle.std.specs.declared.alloc.Global.{Global}
 use Rattle.std.proofs.lemmas.List.{drop_all, length-drop, length-map}
-use Rattle.ir_grammar.specs.Reader.{Out, Got, Wrong, all_read}
+use Rattle.ir_grammar.specs.Reader.{Got, Wrong, all_read}
 use Rattle.ir_grammar.specs.FirstWrong.{ReadsAll}
 use Rattle.ir_grammar.specs.Code.{Stops}
 use Rattle.ir_grammar.specs.declared.Stop.{Stop}
@@ -10,9 +10,8 @@ use Rattle.ir_grammar.specs.declared.Stop.TheVariants.{WrongSymbol, OutOfMemory}
 use Rattle.ir_grammar.proofs.Reading.{reads_all}
 use Rattle.ir_lex.specs.Symbols.{Symbol, symbols_of}
 use Rattle.ir_lex.specs.declared.token.Token.{Token}
-use Rattle.ir_tree.specs.Shape.{InstShape, BlockShape, FunctionShape, ModuleShape}
+use Rattle.ir_tree.specs.Shape.{BlockShape, ModuleShape}
 use Rattle.ir_tree.specs.ShapeOf.{inst_shape, block_shape, function_shape}
-use Rattle.ir_tree.specs.declared.module.Inst.{Inst}
 use Rattle.ir_tree.specs.declared.module.Block.{Block}
 use Rattle.ir_tree.specs.declared.module.Function.{Function}
 use Rattle.const_grammar.specs.Depth.{IsTooDeep}
@@ -24,8 +23,11 @@ use Rattle.module_grammar.specs.Items.{ItemShape, type_item, global_item, declar
 use Rattle.module_grammar.specs.Modules.{with_item, module_of, whole_module, run_module}
 use Rattle.module_grammar.proofs.ItemLaw.{good_module}
 use Rattle.block_reader.specs.Spots.{InPieces, IsBlockAt}
-use Rattle.ir_parse.specs.Answers.{AreShallow, ReadsWhole}
-use Rattle.ir_parse.specs.Spots.{Place, HasLinesAt, IsItemAt, IsFunctionAt, SpotLists, with_spot, spots_of, lists_of, AreSpots}
+use Rattle.ir_parse.specs.Answers.{AreShallow, error_of, ReadsWhole, Parses}
+use Rattle.ir_parse.specs.declared.error.ParseError.{ParseError}
+use Rattle.ir_parse.specs.declared.error.ParseError.TheVariants as error
+use Rattle.ir_tree.specs.declared.parsed.Parsed.{Parsed}
+use Rattle.ir_parse.specs.Spots.{Place, HasLinesAt, IsItemAt, SpotLists, with_spot, spots_of, AreSpots}
 use Rattle.ir_parse.specs.Drafts.{draft_shape}
 use Rattle.ir_parse.specs.declared.draft.Draft.{Draft}
 
@@ -54,10 +56,17 @@ whole_left text toks m next before e =
     (subst (λ z. ReadsAll whole_module (symbols_of text toks) (all_read z)) e (whole text toks))
 
 -- the reader of the items stopped
-pub whole_stopped : (text : List ℕ) (toks : List Token) (e : Stop) → Stops (symbols_of text toks) e (run_module (length toks) (symbols_of text toks)) → ReadsWhole text toks (Err e)
+pub whole_stopped : (text : List ℕ) (toks : List Token) (e : Stop) → Stops (symbols_of text toks) e (run_module (length toks) (symbols_of text toks)) → ReadsWhole text toks (Err (error_of text toks e))
 whole_stopped text toks (WrongSymbol k) h =
-    (subst (λ z. ReadsAll whole_module (symbols_of text toks) (all_read z)) h.0 (whole text toks), omega (arith, h.1, symbols_count text toks))
+    (k, omega (arith, h.1, symbols_count text toks), refl, subst (λ z. ReadsAll whole_module (symbols_of text toks) (all_read z)) h.0 (whole text toks))
 whole_stopped text toks OutOfMemory h = tt
+
+-- no bracket is the 65th open one
+pub shallow_parses : (text : List ℕ) (toks : List Token) (result : Result Parsed ParseError) → ReadsWhole text toks result → AreShallow (symbols_of text toks) → Parses text toks result
+shallow_parses text toks (Ok parsed) h s = (h, s)
+shallow_parses text toks (Err (error.Syntax at)) h s = (h, s)
+shallow_parses text toks (Err (error.Deep at)) h s = absurd h
+shallow_parses text toks (Err error.OutOfMemory) h s = tt
 
 -- there are as many spots as items and lines
 

@@ -16,7 +16,6 @@ mod modules;
 use crate::modules::module_of;
 pub use error::ParseError;
 use ir_const::{deep_end, place_of};
-use ir_grammar::Stop;
 use ir_lex::Token;
 use ir_tree::parsed::Parsed;
 use std::alloc::Global;
@@ -40,11 +39,5 @@ pub fn parse(alloc: Global, text: &[u8], toks: &[Token]) -> Result<Parsed, Parse
             at: place_of(text, toks, end - 1),
         });
     }
-    match module_of(alloc, text, toks) {
-        Ok(parsed) => Ok(parsed),
-        Err(Stop::OutOfMemory) => Err(ParseError::OutOfMemory),
-        Err(Stop::WrongSymbol(number)) => Err(ParseError::Syntax {
-            at: place_of(text, toks, number),
-        }),
-    }
+    module_of(alloc, text, toks)
 }

@@ -6,13 +6,15 @@ ghost use Rattle.ir_lex.specs.Symbols.{symbols_of};
 ghost use Rattle.ir_tree.specs.ShapeOf.{module_shape};
 ghost use Rattle.ir_tree.specs.Known.{module_known};
 ghost use Rattle.module_grammar.specs.Modules.{run_module};
-ghost use Rattle.ir_parse.specs.Answers.{ReadsWhole};
+ghost use Rattle.ir_parse.specs.Answers.{error_of, ReadsWhole};
 ghost use Rattle.ir_parse.specs.Drafts.{draft_shape, draft_known};
 ghost use Rattle.ir_parse.specs.Spots.{AreSpots};
 
 use crate::draft::Draft;
+use crate::error::ParseError;
 use crate::items::{begins_item, item_at};
 use block_reader::start_at;
+use ir_const::place_of;
 use ir_grammar::Stop;
 use ir_lex::Token;
 use ir_tree::module::Module;
@@ -48,17 +50,34 @@ fn items_at(
     Ok((draft, next))
 }
 
-/// The module that all tokens spell.
-pub fn module_of(alloc: Global, text: &[u8], toks: &[Token]) -> Result<Parsed, Stop>
+/// Why there is no module, where the reader of the items stopped so.
+fn error_of(text: &[u8], toks: &[Token], stop: Stop) -> ParseError
+    ensures { result ≡ error_of text.now toks.now stop }
+{
+    match stop {
+        Stop::OutOfMemory => ParseError::OutOfMemory,
+        Stop::WrongSymbol(number) => ParseError::Syntax {
+            at: place_of(text, toks, number),
+        },
+    }
+}
+
+/// The module that all tokens spell, however many brackets are open.
+pub fn module_of(alloc: Global, text: &[u8], toks: &[Token]) -> Result<Parsed, ParseError>
     requires { length toks.now < 2 ^ 31 }
     ensures reads { ReadsWhole text.now toks.now result }
     ensures spots { IfOk result (λ p. AreSpots text.now toks.now (module_shape p.«module») p.spots) }
     ensures known { IfOk result (λ p. module_known p.«module» ≡ true) }
 {
     let mut names = Names::new(alloc);
-    let (draft, next) = items_at(alloc, text, toks, &mut names)?;
+    let (draft, next) = match items_at(alloc, text, toks, &mut names) {
+        Ok(read) => read,
+        Err(stop) => return Err(error_of(text, toks, stop)),
+    };
     if next < toks.len() {
-        return Err(Stop::WrongSymbol(next));
+        return Err(ParseError::Syntax {
+            at: place_of(text, toks, next),
+        });
     }
     let Draft {
         types,
