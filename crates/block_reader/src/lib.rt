@@ -14,7 +14,8 @@ mod label;
 mod others;
 mod single;
 
-use crate::ahead::{begins_phi, start_at};
+use crate::ahead::begins_phi;
+pub use crate::ahead::start_at;
 use crate::label::{label_at, maybe_label_at};
 use crate::others::others_at;
 use crate::single::phi_line_at;

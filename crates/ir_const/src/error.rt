@@ -30,7 +30,7 @@ pub enum ReadError {
 }
 
 /// The offset of the token of that number, or the length of the text behind the last one.
-fn place_of(text: &[u8], toks: &[Token], number: usize) -> usize
+pub fn place_of(text: &[u8], toks: &[Token], number: usize) -> usize
     ensures { result ≡ place_of text.now toks.now number }
 {
     match toks.get(number) {

@@ -7,7 +7,7 @@ mod reading;
 
 pub use const_printer::{print_const, print_ty};
 pub use depth::deep_end;
-pub use error::ReadError;
+pub use error::{ReadError, place_of};
 pub use reading::{read_const, read_ty};
 
 #[cfg(test)]

@@ -1,9 +1,9 @@
 -- The blocks of a function: those read so far are what the reader on symbols gives, and their pieces stand one behind another.
-use Rattle.std.proofs.Common.{◌≡◌, ℕ, suc, ◌+◌, ◌-◌, ◌≤◌, ◌<◌, ◌&&◌, Bool, true, false, List, [], ◌∷◌, ◌++◌, length, map, drop, slice_range, Option, option_map, refl, sym, ◌∙◌, ap, subst, arith, append_assoc, Vec}
+use Rattle.std.proofs.Common.{◌≡◌, ℕ, suc, ◌+◌, ◌≤◌, Bool, true, false, List, [], ◌∷◌, ◌++◌, length, map, drop, slice_range, Option, option_map, refl, sym, ◌∙◌, ap, subst, arith, append_assoc, Vec}
 use Rattle.std.specs.List.{list_all}
 use Rattle.std.specs.declared.alloc.Global.{Global}
 use Rattle.std.proofs.lemmas.List.{map-append}
-use Rattle.ir_grammar.specs.Language.{one, skip, up_to, Mark, mark}
+use Rattle.ir_grammar.specs.Language.{one, mark}
 use Rattle.ir_grammar.specs.Reader.{Out, Got, Wrong, Reader, then_out, heads, opens, run_one, run_skip, run_map, run_seq, run_up_to, run_until}
 use Rattle.ir_lex.specs.Symbols.{Symbol, symbols_of}
 use Rattle.ir_lex.specs.declared.token.Token.{Token}
@@ -89,7 +89,7 @@ insts_keep = record { same = inst_shape-append; stays = inst_known-more }
 params_keep : Keeps param_shape param_known
 params_keep = record { same = param_shape-append; stays = param_known-more }
 
-all_stay : {A V : Type 0} {shape : List (List ℕ) → A → V} {known : ℕ → A → Bool} → Keeps shape known → {old new : List (List ℕ)} → Grows old new
+pub all_stay : {A V : Type 0} {shape : List (List ℕ) → A → V} {known : ℕ → A → Bool} → Keeps shape known → {old new : List (List ℕ)} → Grows old new
     → (xs : List A) → list_all (known (length old)) xs ≡ true → list_all (known (length new)) xs ≡ true
 all_stay {known = known} keeps {old = old} {new = new} g xs h =
     list_all-weaker (known (length old)) (known (length new)) (λ x k. keeps.stays (length old) (length new) (grows_length g) x k) xs h
@@ -182,7 +182,7 @@ function_known_of g ret name params blocks known_ret known_name known_params kno
 sound_parameter : (n : ℕ) → Sound parameter (run_parameter n)
 sound_parameter n = sound_map parameter_of (sound_seq (sound_ty n) (sound_maybe (heads local_name) (sound_one local_name)))
 
-sound_signature : (n : ℕ) → Sound signature (run_signature n)
+pub sound_signature : (n : ℕ) → Sound signature (run_signature n)
 sound_signature n = sound_seq (sound_ty n) (sound_seq (sound_one global_name) (sound_skip (punct 40) (sound_listed n (punct 44) (punct 41) (sound_parameter n))))
 
 -- the tokens of a function

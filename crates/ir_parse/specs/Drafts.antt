@@ -1,5 +1,5 @@
 -- Items as the code reads them, and a module while its items are read, under a table of names.
-use Rattle.std.specs.Prelude.{ℕ, Bool, true, ◌&&◌, List, [], ◌∷◌, ◌++◌, map}
+use Rattle.std.specs.Prelude.{ℕ, Bool, ◌&&◌, List, [], ◌∷◌, ◌++◌, map}
 use Rattle.std.specs.List.{list_all}
 use Rattle.ir_tree.specs.Shape.{ModuleShape}
 use Rattle.ir_tree.specs.ShapeOf.{named_ty_shape, global_shape, declare_shape, function_shape}

@@ -1,6 +1,6 @@
 //! A module while its items are read.
 
-ghost use Rattle.std.specs.Prelude.{◌≡◌, ℕ, List, OnOk, true};
+ghost use Rattle.std.specs.Prelude.{◌≡◌, ℕ, List, [], OnOk, true};
 ghost use Rattle.ir_parse.specs.Drafts.{item_shape, item_known, item_lines, draft_shape, draft_known, with_last};
 ghost use Rattle.ir_parse.specs.Spots.{lists_of, with_last_spot};
 

@@ -1,20 +1,19 @@
 //! Items, each from its first token on.
 
-ghost use Rattle.std.specs.Prelude.{◌≡◌, ◌+◌, ◌^◌, ◌<◌, ◌≤◌, length, drop, slice_range, true, false, IfOk, MatchOption};
+ghost use Rattle.std.specs.Prelude.{◌≡◌, ◌+◌, ◌^◌, ◌<◌, ◌≤◌, length, drop, slice_range, true, IfOk};
 ghost use Rattle.ir_grammar.specs.Reader.{opens};
 ghost use Rattle.ir_grammar.specs.Code.{Gives};
 ghost use Rattle.ir_lex.specs.Symbols.{symbols_of};
 ghost use Rattle.ir_tree.specs.NameTable.{Grows};
 ghost use Rattle.module_grammar.specs.Items.{run_item};
 ghost use Rattle.module_grammar.specs.Modules.{begins_item};
-ghost use Rattle.block_reader.specs.Spots.{start_of};
 ghost use Rattle.ir_parse.specs.Drafts.{item_shape, item_known, item_lines};
 ghost use Rattle.ir_parse.specs.Spots.{HasLinesAt};
 
 use crate::functions::{SpottedFunction, function_line_at};
 use ir_grammar::Stop;
 use ir_lex::{Keyword, Token};
-use ir_symbols::{Meaning, meaning_at, meaning_of};
+use ir_symbols::{Meaning, meaning_at};
 use ir_tree::module::{Declare, GlobalItem, NamedTy};
 use ir_tree::names::Names;
 use item_reader::{declare_line_at, global_line_at, type_line_at};
@@ -33,18 +32,17 @@ pub enum Item {
     Defined(SpottedFunction),
 }
 
-/// The offset of the token at `at`, where an item begins with it.
-pub fn item_start(text: &[u8], toks: &[Token], at: usize) -> Option<usize>
+/// Whether an item begins at `at`.
+pub fn begins_item(text: &[u8], toks: &[Token], at: usize) -> bool
     requires { at ≤ length (symbols_of text.now toks.now) }
-    ensures { MatchOption result (opens begins_item (drop at (symbols_of text.now toks.now)) ≡ false)
-        (λ spot. (opens begins_item (drop at (symbols_of text.now toks.now)) ≡ true)
-        × (spot ≡ start_of (drop at toks.now))) }
+    ensures { result ≡ opens begins_item (drop at (symbols_of text.now toks.now)) }
 {
-    let token = toks.get(at)?;
-    match meaning_of(text, token) {
-        Meaning::Local(_) | Meaning::Global(_) => Some(token.start),
-        Meaning::Keyword(Keyword::Declare | Keyword::Define) => Some(token.start),
-        _ => None,
+    match meaning_at(text, toks, at) {
+        Some(Meaning::Local(_)) => true,
+        Some(Meaning::Global(_)) => true,
+        Some(Meaning::Keyword(Keyword::Declare)) => true,
+        Some(Meaning::Keyword(Keyword::Define)) => true,
+        _ => false,
     }
 }
 

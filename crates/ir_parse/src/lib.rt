@@ -11,8 +11,11 @@ mod draft;
 mod error;
 mod functions;
 mod items;
+mod modules;
 
+use crate::modules::module_of;
 pub use error::ParseError;
+use ir_const::{deep_end, place_of};
 use ir_lex::Token;
 use ir_tree::parsed::Parsed;
 use std::alloc::Global;
@@ -31,5 +34,10 @@ pub fn parse(alloc: Global, text: &[u8], toks: &[Token]) -> Result<Parsed, Parse
     ensures spots { IfOk result (λ p. AreSpots text.now toks.now (module_shape p.«module») p.spots) }
     ensures known { IfOk result (λ p. module_known p.«module» ≡ true) }
 {
-    Err(ParseError::OutOfMemory)
+    if let Some(end) = deep_end(text, toks, 0) {
+        return Err(ParseError::Deep {
+            at: place_of(text, toks, end - 1),
+        });
+    }
+    module_of(alloc, text, toks)
 }

@@ -4,3 +4,6 @@ pub mod OperandItems
 pub mod Bodies
 pub mod Modules
 pub mod Rows
+pub mod Carrying
+pub mod PrintableInsts
+pub mod PrintableModules

@@ -9,7 +9,7 @@ ghost use Rattle.ir_grammar.specs.Reader.{Got};
 ghost use Rattle.ir_lex.specs.declared.token.Token.{Token};
 ghost use Rattle.ir_lex.specs.Symbols.{symbols_of};
 ghost use Rattle.ir_lex.specs.Tokens.{AreTokens};
-ghost use Rattle.ir_spell.specs.Printed.{ArePrintable, rows_of};
+ghost use Rattle.ir_spell.specs.Printed.{AreBytes, ArePrintable, rows_of};
 ghost use Rattle.ir_spell.specs.Spells.{Spells};
 ghost use Rattle.ir_tree.specs.Shape.{ModuleShape};
 ghost use Rattle.ir_tree.specs.ShapeOf.{module_shape};
@@ -57,4 +57,18 @@ pub fn printed_modules_are_read_back()
         run_module (length (symbols_of (module_text m) toks)) (symbols_of (module_text m) toks) ≡ Got m [] }
     ensures spells_it { (m : ModuleShape) (toks : List Token) → FitsModule m → ArePrintable (module_spelling m) → AreTokens (module_text m) toks →
         whole_module (symbols_of (module_text m) toks) m }
+{}
+
+/// Modules that were read are printed and read back: a module that the tokens of a text of bytes spell has a printable spelling, so
+/// it is spelled by its printed form, and whatever tokens that text has spell the module, and the reader gives it again.
+pub fn read_modules_are_read_back()
+    ensures printable { (text : List ℕ) (toks : List Token) (m : ModuleShape) → AreBytes text → whole_module (symbols_of text toks) m →
+        ArePrintable (module_spelling m) }
+    ensures spelled { (text : List ℕ) (toks : List Token) (m : ModuleShape) → AreBytes text → whole_module (symbols_of text toks) m →
+        Spells (module_text m) (module_spelling m) }
+    ensures spells_it { (text : List ℕ) (toks : List Token) (m : ModuleShape) (again : List Token) → AreBytes text →
+        whole_module (symbols_of text toks) m → AreTokens (module_text m) again → whole_module (symbols_of (module_text m) again) m }
+    ensures back { (text : List ℕ) (toks : List Token) (m : ModuleShape) (again : List Token) → AreBytes text →
+        whole_module (symbols_of text toks) m → AreTokens (module_text m) again →
+        run_module (length (symbols_of (module_text m) again)) (symbols_of (module_text m) again) ≡ Got m [] }
 {}

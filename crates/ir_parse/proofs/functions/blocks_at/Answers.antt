@@ -1,4 +1,4 @@
-use Rattle.std.proofs.Common.{◌≡◌, length, map, drop, sym, ◌∙◌, ap, subst, arith}
+use Rattle.std.proofs.Common.{arith}
 use Rattle.ir_tree.proofs.Grows.{and_both, and_right}
 use Rattle.ir_tree.proofs.Table.{grows_on}
 use Rattle.ir_parse.proofs.Bodies.{Named, first_known, blocks_read, body_joined, grown_after, insts_kept}

@@ -1,6 +1,5 @@
-use Rattle.std.proofs.Common.{◌≡◌, length, drop, arith}
+use Rattle.std.proofs.Common.{arith}
 use Rattle.ir_tree.proofs.Grows.{and_left, and_right}
-use Rattle.ir_tree.proofs.Table.{grows_on}
 use Rattle.ir_parse.proofs.Bodies.{function_read, function_known_of, function_spotted, grown_after}
 use Rattle.ir_parse.proofs.functions.function_line_at.Goals as goal
 
