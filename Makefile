@@ -24,6 +24,8 @@ demo: build
 	@echo '# bit 0 of x17 before the call, at 00010008: a listed point, and there is no such call'
 	$(call show,./swiftr flip build/seven.elf - 100 2 17 0)
 	$(call show,examples/flip-all.sh examples/seven.ll)
+	@echo '# the module of a text in the manner of clang, in one form'
+	$(call show,./swiftr print examples/echo.ll)
 
 test:
 	@.ci/run

@@ -41,3 +41,6 @@ pub fn parse(alloc: Global, text: &[u8], toks: &[Token]) -> Result<Parsed, Parse
     }
     module_of(alloc, text, toks)
 }
+
+#[cfg(test)]
+mod tests;
