@@ -2,7 +2,7 @@
 use Rattle.std.proofs.Common.{◌≡◌, ℕ, List, [], inl, inr, refl, arith, subst, sym, ◌∙◌, ap, Option, Some, None, IsSome}
 use Rattle.sr_base.specs.Files.{Files, held, Holds}
 use Rattle.sr_base.specs.Meanings.{StoreMeaning, SinkMeaning}
-use Rattle.swiftr_cli.specs.Words.{Form, compile, execute, disasm}
+use Rattle.swiftr_cli.specs.Words.{Form, compile, execute, disasm, print}
 use Rattle.rv_model.specs.declared.Flip.{Flip}
 use Rattle.rv_model.specs.Run.{run}
 use Rattle.rv_model.specs.Start.{started}
@@ -10,8 +10,10 @@ use Rattle.swiftr_cli.specs.Gives.{IsAccepted, RefusesText}
 use Rattle.swiftr_cli.specs.Loads.{RefusesLoad, LacksLoad}
 use Rattle.swiftr_cli.specs.Runs.{Runs, run_status}
 use Rattle.swiftr_cli.specs.Disasm.{Disassembles}
+use Rattle.swiftr_cli.specs.Prints.{HasModule}
 use Rattle.swiftr_cli.specs.Yield.{Yield}
 use Rattle.swiftr_cli.proofs.LoadLaws.{one_load, load_not_refused, load_there}
+use Rattle.swiftr_cli.proofs.PrintLaws.{printed_not_refused}
 use Rattle.swiftr_cli.specs.Answers.{IsCausedBy, IsComplete}
 use Rattle.swiftr_cli.specs.declared.status.Status.{Status}
 use Rattle.swiftr_cli.specs.declared.status.Status.TheVariants.{Done, Usage, Refused, Stopped, StepsOver, ReadFault, WriteFault, NoMemory, Absent}
@@ -93,3 +95,13 @@ completes (disasm program) ReadFault s s' o o' n n' cause = λ can faultless. ab
 completes (disasm program) WriteFault s s' o o' n n' cause = λ can faultless. absurd (faultless.1 cause.1)
 completes (disasm program) NoMemory s s' o o' n n' cause = λ can faultless. inr refl
 completes (disasm program) Absent s s' o o' n n' cause = λ (told, (given, gives)) faultless. absurd (listed_there s.files program given told gives cause)
+completes (print input) Done s s' o o' n n' cause = λ can faultless. inl refl
+completes (print input) Usage s s' o o' n n' cause = absurd cause
+completes (print input) Refused s s' o o' n n' (kind, (text, holds, refuses)) = λ (there, m, held_there, printable) faultless.
+    absurd (printed_not_refused text kind m (subst (λ (t : List ℕ). HasModule t m) (same_file s.files input there text held_there holds) printable) refuses)
+completes (print input) Stopped s s' o o' n n' cause = absurd cause.1
+completes (print input) StepsOver s s' o o' n n' cause = absurd cause.1
+completes (print input) ReadFault s s' o o' n n' cause = λ can faultless. absurd (faultless.0 cause)
+completes (print input) WriteFault s s' o o' n n' cause = λ can faultless. absurd (faultless.1 cause.1)
+completes (print input) NoMemory s s' o o' n n' cause = λ can faultless. inr refl
+completes (print input) Absent s s' o o' n n' cause = λ (there, m, held_there, printable) faultless. absurd (not_absent s.files input there held_there cause)

@@ -10,8 +10,9 @@ use Rattle.swiftr_cli.specs.Hardened.{IsHardened}
 use Rattle.swiftr_cli.proofs.Literals.{nine_digits_fit}
 use Rattle.swiftr_cli.proofs.ExitSurvives.{exit_is_hardened}
 use Rattle.std.proofs.lemmas.Int.{to_z-of_z}
-use Rattle.swiftr_cli.specs.Gives.{GivesExecutable, most_text}
-use Rattle.swiftr_cli.specs.Jobs.{IsRefusal, IsBuilt, IsJobOf, IsReadAs, StopsEarly}
+use Rattle.swiftr_cli.specs.Loads.{most_text}
+use Rattle.swiftr_cli.specs.Gives.{GivesExecutable}
+use Rattle.swiftr_cli.specs.Jobs.{IsRefusal, IsBuilt, IsJobOf, IsReadWithin, StopsEarly}
 use Rattle.swiftr_cli.specs.declared.status.Status.{Status}
 use Rattle.swiftr_cli.specs.declared.status.Status.TheVariants.{NoMemory}
 use Rattle.swiftr_cli.specs.declared.job.Job.{Job}
@@ -44,7 +45,7 @@ pub returned_kept : (text : List ℕ) (number : ℤ) → Returns text number →
 returned_kept text number returns = to_z-of_z w32 number (nine_digits_fit number returns.1.0)
 
 -- a file that is too long is refused as that
-pub too_long : (r : Result Job Status) (s s' : StoreMeaning) (input output : List ℕ) → IsReadAs s.files input None → IfOk r (IsRefusal (codes "TooLong most=4194304")) → IfErr r (λ status. status ≡ NoMemory) → MatchResult r (IsJobOf (compile input output) s.files) (StopsEarly (compile input output) s s')
+pub too_long : (r : Result Job Status) (s s' : StoreMeaning) (input output : List ℕ) → IsReadWithin most_text s.files input None → IfOk r (IsRefusal (codes "TooLong most=4194304")) → IfErr r (λ status. status ≡ NoMemory) → MatchResult r (IsJobOf (compile input output) s.files) (StopsEarly (compile input output) s s')
 too_long (Ok (Refusal line)) s s' input output read h e = (codes "TooLong most=4194304", (read.0, read.1, inl (read.2, refl)), h)
 too_long (Ok other) s s' input output read h e = absurd h
 too_long (Err status) s s' input output read h e = rw e tt

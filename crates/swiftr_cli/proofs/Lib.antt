@@ -3,6 +3,9 @@ mod JobLaws
 mod LoadLaws
 mod Hexadecimals
 mod Numbers
+mod FewTokens
+mod SourceLaws
+mod PrintLaws
 mod Complete
 mod Delivered
 mod ExitSurvives

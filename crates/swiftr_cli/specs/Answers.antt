@@ -4,7 +4,7 @@ use Rattle.sr_base.specs.Counts.{Rose}
 use Rattle.sr_base.specs.Bytes.{Takes, TakesPrefix}
 use Rattle.sr_base.specs.Files.{Files, Holds, SameBut}
 use Rattle.sr_base.specs.Meanings.{StoreMeaning, SinkMeaning}
-use Rattle.swiftr_cli.specs.Words.{Form, compile, execute, disasm}
+use Rattle.swiftr_cli.specs.Words.{Form, compile, execute, disasm, print}
 use Rattle.swiftr_cli.specs.Statuses.{line_of, refused_line}
 use Rattle.swiftr_cli.specs.Gives.{Yield, Gives, Halts, Refuses, Lacks, output_of, CanBeDone}
 use Rattle.swiftr_cli.specs.declared.status.Status.{Status}
@@ -30,6 +30,7 @@ abbrev pub HasWriteFault : Form → StoreMeaning → StoreMeaning → SinkMeanin
 HasWriteFault (compile input output) s s' o o' n n' = Rose s.write_faults s'.write_faults ⊎ Rose o.faults o'.faults
 HasWriteFault (execute program input steps flip) s s' o o' n n' = Rose o.faults o'.faults ⊎ Rose n.faults n'.faults
 HasWriteFault (disasm program) s s' o o' n n' = Rose o.faults o'.faults
+HasWriteFault (print input) s s' o o' n n' = Rose o.faults o'.faults
 
 -- why words of this form end with a status; two causes of different statuses shut one another out
 abbrev pub IsCausedBy : Form → Status → StoreMeaning → StoreMeaning → SinkMeaning → SinkMeaning → SinkMeaning → SinkMeaning → Type 0

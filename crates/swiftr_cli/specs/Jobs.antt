@@ -14,7 +14,8 @@ use Rattle.swiftr_cli.specs.Runs.{IsAnswered}
 use Rattle.swiftr_cli.specs.declared.loading.Loaded.{Loaded}
 use Rattle.swiftr_cli.specs.declared.loading.Loaded.TheVariants.{Program, Refused}
 use Rattle.rv_model.specs.Run.{RunResult}
-use Rattle.swiftr_cli.specs.Gives.{Gives, Halts, GivesExecutable, Refuses, RefusesText, Lacks, output_of, most_text}
+use Rattle.swiftr_cli.specs.Gives.{Gives, Halts, GivesExecutable, Refuses, RefusesText, Lacks, output_of}
+use Rattle.swiftr_cli.specs.Prints.{GivesPrinted, RefusesShort}
 use Rattle.swiftr_cli.specs.declared.status.Status.{Status}
 use Rattle.swiftr_cli.specs.declared.status.Status.TheVariants.{Done, Stopped, StepsOver, ReadFault, WriteFault, NoMemory, Absent}
 use Rattle.swiftr_cli.specs.declared.job.Output.{Output}
@@ -60,10 +61,6 @@ abbrev pub IsReadWithin : ℕ → Option Files → List ℕ → Option (Vec ℕ 
 IsReadWithin most files name None = HasLonger files name most
 IsReadWithin most files name (Some content) = HasFile files name most content.items
 
--- the same of a text
-abbrev pub IsReadAs : Option Files → List ℕ → Option (Vec ℕ Global) → Type 0
-IsReadAs files name found = IsReadWithin most_text files name found
-
 -- why a file was not read
 abbrev pub StopsReading : StoreMeaning → StoreMeaning → List ℕ → Status → Type 0
 StopsReading s s' name ReadFault = Rose s.read_faults s'.read_faults
@@ -95,6 +92,13 @@ IsBuilt text output (Whole whole out line) =
     (output_name whole ≡ Some output) × GivesExecutable text (record { image = output_bytes whole; text = out.items; line = line.items })
 IsBuilt text output (Refusal line) = (kind : List ℕ) × RefusesText text kind × (line.items ≡ refused_line kind)
 IsBuilt text output other = ⊥
+
+-- the job of a text that was read, and is to be printed
+abbrev pub IsPrinted : List ℕ → Job → Type 0
+IsPrinted text (Whole whole out line) =
+    (output_name whole ≡ None) × GivesPrinted text (record { image = output_bytes whole; text = out.items; line = line.items })
+IsPrinted text (Refusal line) = (kind : List ℕ) × RefusesShort text kind × (line.items ≡ refused_line kind)
+IsPrinted text other = ⊥
 
 -- what the reading of an input found: its bytes, or a file that is too long
 abbrev pub IsInputAs : Option Files → Option (List ℕ) → Option (Vec ℕ Global) → Type 0

@@ -10,6 +10,8 @@ pub mod Hexadecimal
 pub mod Loads
 pub mod Runs
 pub mod Disasm
+pub mod Prints
+pub mod Sources
 pub mod Gives
 pub mod Answers
 pub mod Jobs

@@ -1,4 +1,4 @@
--- The executable and the input that a form reads, in this order.
+-- The files that a form reads: a text, or an executable and an input, in this order.
 use Rattle.std.specs.Prelude.{◌≡◌, ◌⊎◌, ◌<◌, ◌≤◌, ℕ, List, [], length, codes, Option, Some, None, Ok, Err}
 use Rattle.sr_base.specs.Files.{Files, Holds}
 use Rattle.elf_file.specs.Image.{ProgramImage}
@@ -6,7 +6,10 @@ use Rattle.elf_file.specs.Reading.{reading_of}
 use Rattle.elf_file.specs.declared.error.ElfError.{ElfError}
 use Rattle.elf_file.specs.declared.error.ElfError.TheVariants.{NotElf, WrongKind, BadSegment, Overlap, TooLarge, OutOfMemory}
 
--- the most bytes that an executable and an input may have
+-- the most bytes that a text, an executable and an input may have
+abbrev pub most_text : ℕ
+most_text = 4194304
+
 abbrev pub most_program : ℕ
 most_program = 268435456
 

@@ -9,6 +9,7 @@ pub data Form : Type 0 where
   compile : (input output : List ℕ) → Form
   execute : (program : List ℕ) (input : Option (List ℕ)) (steps : ℕ) (flip : Option Flip) → Form
   disasm : (program : List ℕ) → Form
+  print : (input : List ℕ) → Form
 
 -- a word that names a file: it is neither empty nor `-`
 abbrev pub is_name : List ℕ → Bool
@@ -48,9 +49,11 @@ abbrev pub flipped_execution : List ℕ → List ℕ → Option ℕ → Option F
 flipped_execution program input steps None = None
 flipped_execution program input steps (Some flip) = execution program input steps (Some flip)
 
--- the form of a command's name and one more word: `disasm EXE`
+-- the form of a command's name and one more word: `disasm EXE` or `print IN`
 abbrev pub two_words : List ℕ → List ℕ → Option Form
-two_words command program = if bytes_eq command (codes "disasm") && is_name program then Some (disasm program) else None
+two_words command file =
+    if bytes_eq command (codes "disasm") && is_name file then Some (disasm file)
+    else (if bytes_eq command (codes "print") && is_name file then Some (print file) else None)
 
 -- that of `compile IN OUT`
 abbrev pub three_words : List ℕ → List ℕ → List ℕ → Option Form
@@ -69,7 +72,7 @@ seven_words command program input steps flip =
 
 -- the form that the words have; any other words have none
 abbrev pub form_of : List (List ℕ) → Option Form
-form_of (command ∷ program ∷ []) = two_words command program
+form_of (command ∷ file ∷ []) = two_words command file
 form_of (command ∷ first ∷ second ∷ []) = three_words command first second
 form_of (command ∷ program ∷ input ∷ steps ∷ []) = four_words command program input steps
 form_of (command ∷ program ∷ input ∷ steps ∷ at ∷ reg ∷ bit ∷ []) = seven_words command program input steps (flip_of at reg bit)

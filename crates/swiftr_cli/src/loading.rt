@@ -1,4 +1,4 @@
-//! Executables and their inputs, from files.
+//! Texts, executables and their inputs, from files.
 
 ghost use Rattle.std.specs.Prelude.{◌≡◌, ◌≢◌, IfOk, IfErr, MatchResult};
 ghost use Rattle.sr_base.specs.Meanings.{StoreMeaning};
@@ -10,6 +10,9 @@ use crate::status::Status;
 use elf_file::{ElfError, Image};
 use sr_base::{Store, StoreError};
 use std::alloc::Global;
+
+/// The most bytes that a text may have.
+pub const MOST_TEXT: usize = 4_194_304;
 
 /// The most bytes that an executable may have.
 const MOST_PROGRAM: usize = 268_435_456;
@@ -27,7 +30,7 @@ pub enum Loaded {
 }
 
 /// Reads a file; `None` where it has more than `most` bytes.
-fn read_file<S: Store>(
+pub fn read_file<S: Store>(
     alloc: Global,
     name: &str,
     most: usize,

@@ -1,5 +1,5 @@
 //! The command `swiftr`: compiles a text into an executable that survives a flipped register bit, runs
-//! executables with one flip or with none, and lists their words.
+//! executables with one flip or with none, lists their words, and prints the module of a text.
 #![tactic(auto)]
 
 mod compile;
@@ -10,9 +10,15 @@ mod first_form;
 mod job;
 mod loading;
 mod points;
+mod print;
+#[cfg(test)]
+mod print_forms_tests;
+#[cfg(test)]
+mod print_tests;
 mod program;
 #[cfg(test)]
 mod run_tests;
+mod source;
 mod status;
 #[cfg(test)]
 mod tests;

@@ -13,6 +13,7 @@ use crate::compile::compile;
 use crate::disasm::disasm;
 use crate::execute::execute;
 use crate::job::{Job, finish, tell};
+use crate::print::print;
 use crate::status::Status;
 use crate::words::{Command, parse_words};
 use sr_base::{Sink, Store};
@@ -37,6 +38,7 @@ fn make_job<'a, S: Store>(
             flip,
         } => execute(alloc, program, input, steps, flip, store),
         Command::Disasm { program } => disasm(alloc, program, store),
+        Command::Print { input } => print(alloc, input, store),
     }
 }
 

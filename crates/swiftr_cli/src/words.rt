@@ -31,6 +31,10 @@ pub enum Command<'a> {
     Disasm {
         program: &'a str,
     },
+    /// `print IN`: prints the module of the text in the file IN.
+    Print {
+        input: &'a str,
+    },
 }
 
 /// Whether a word names a file: it is neither empty nor `-`.
@@ -119,12 +123,14 @@ fn parse_execution<'a>(
 }
 
 /// The command of a name and one more word.
-fn parse_two<'a>(command: &str, program: &'a str) -> Option<Command<'a>>
-    ensures meant { option_map meant result ≡ two_words command.now program.now }
+fn parse_two<'a>(command: &str, file: &'a str) -> Option<Command<'a>>
+    ensures meant { option_map meant result ≡ two_words command.now file.now }
     ensures fits { IfSome result HasGoodFlip }
 {
-    if command == "disasm" && is_name(program) {
-        Some(Command::Disasm { program })
+    if command == "disasm" && is_name(file) {
+        Some(Command::Disasm { program: file })
+    } else if command == "print" && is_name(file) {
+        Some(Command::Print { input: file })
     } else {
         None
     }
@@ -187,7 +193,7 @@ pub fn parse_words(words: &[String]) -> Option<Command<'_>>
     ensures fits { IfSome result HasGoodFlip }
 {
     match words {
-        [command, program] => parse_two(command.as_str(), program.as_str()),
+        [command, file] => parse_two(command.as_str(), file.as_str()),
         [command, first, second] => {
             parse_three(command.as_str(), first.as_str(), second.as_str())
         }
