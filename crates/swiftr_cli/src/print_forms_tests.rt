@@ -121,3 +121,14 @@ fn prints_each_item_and_instruction(rt: HostRuntime) -> Result<(), Fail> {
     }
     Ok(())
 }
+
+#[test]
+fn prints_a_text_of_four_megabytes(rt: HostRuntime) -> Result<(), Fail> {
+    let alloc = rt.alloc();
+    let mut text = Vec::new(alloc);
+    for _ in 0..246_723 {
+        text.extend_from_slice(b"@g = global i8 0\n")?;
+    }
+    ends(&rt, "prints", print(alloc, &text, &[])?, 0, &text, b"");
+    Ok(())
+}
