@@ -43,4 +43,6 @@ pub fn parse(alloc: Global, text: &[u8], toks: &[Token]) -> Result<Parsed, Parse
 }
 
 #[cfg(test)]
+mod refusal_tests;
+#[cfg(test)]
 mod tests;
