@@ -1,7 +1,7 @@
 -- Tokens up to a number, and what they mean.
-use Rattle.std.proofs.Common.{◌≡◌, ℕ, zero, suc, ◌+◌, ◌-◌, ◌≤◌, ◌<◌, List, [], ◌∷◌, ◌++◌, length, take, drop, map, refl, sym, ◌∙◌, ap, arith}
-use Rattle.std.proofs.lemmas.List.{drop-take, take-map, length-map, length-take-le, append-nil, length-drop}
-use Rattle.ir_lex.specs.Symbols.{Symbol, symbol_of, symbols_of}
+use Rattle.std.proofs.Common.{◌≡◌, ℕ, zero, suc, ◌+◌, ◌≤◌, List, [], ◌∷◌, ◌++◌, length, take, drop, refl, sym, ap, arith}
+use Rattle.std.proofs.lemmas.List.{take-map, length-map}
+use Rattle.ir_lex.specs.Symbols.{symbol_of, symbols_of}
 use Rattle.ir_lex.specs.declared.token.Token.{Token}
 
 pub symbols_cut : (text : List ℕ) (toks : List Token) (n : ℕ) → symbols_of text (take n toks) ≡ take n (symbols_of text toks)

@@ -1,7 +1,7 @@
 -- The search for the first bracket that is the 65th open one, token by token.
-use Rattle.std.proofs.Common.{◌≡◌, ℕ, zero, suc, ◌+◌, ◌==◌, ◌≤◌, ◌<◌, Bool, true, false, List, [], ◌∷◌, length, drop, Option, None, Some, refl, sym, ◌∙◌, ap, subst, arith, eq-eqb, eqb-true, if◌then◌else◌, get_or, slice_get}
+use Rattle.std.proofs.Common.{◌≡◌, ℕ, zero, suc, ◌+◌, ◌==◌, ◌≤◌, ◌<◌, false, List, [], ◌∷◌, length, Option, None, Some, refl, sym, ◌∙◌, ap, subst, arith, eq-eqb, eqb-true, get_or, slice_get}
 use Rattle.std.specs.Option.{option_map}
-use Rattle.ir_lex.specs.Symbols.{Symbol, symbol_of, symbols_of}
+use Rattle.ir_lex.specs.Symbols.{Symbol, symbol_of}
 use Rattle.ir_lex.specs.declared.token.Token.{Token}
 use Rattle.ir_symbols.proofs.Cursor.{drop_symbols}
 use Rattle.const_grammar.proofs.Depths.{behind_low}
@@ -15,7 +15,7 @@ next_cut : (at : ℕ) (o : Option ℕ) → cut_of at (option_map suc o) ≡ cut_
 next_cut at None = refl
 next_cut at (Some k) = let e : at + suc k ≡ at + 1 + k = omega arith in ap Some e
 
-got_or : (toks : List Token) (at : ℕ) (d : Token) → at < length toks → slice_get toks at ≡ Some (get_or toks at d)
+pub got_or : (toks : List Token) (at : ℕ) (d : Token) → at < length toks → slice_get toks at ≡ Some (get_or toks at d)
 got_or [] at d h = absurd (omega arith)
 got_or (x ∷ toks) zero d h = refl
 got_or (x ∷ toks) (suc at) d h = got_or toks at d (omega arith)
@@ -27,7 +27,7 @@ unfolding deep_len
 count_here text toks at n d low r is e =
     rw (drop_symbols text toks at (get_or toks at d) (got_or toks at d low), eq-eqb (open_behind n (symbol_of text (get_or toks at d))) 65 (sym is ∙ e)) refl
 
-apart_65 : (m r : ℕ) → r ≡ m → (r ≡ 65 → ⊥) → (m == 65) ≡ false
+pub apart_65 : (m r : ℕ) → r ≡ m → (r ≡ 65 → ⊥) → (m == 65) ≡ false
 apart_65 m r is other = is_false (m == 65) (λ h. other (is ∙ eqb-true m 65 h))
 
 -- it comes later
@@ -44,7 +44,7 @@ count_low text toks at n d low r is other =
     let t : Symbol = symbol_of text (get_or toks at d) in
     subst (λ z. z ≤ 64) (sym is) (behind_low n t low (apart_65 (open_behind n t) r is other))
 
-none_left : (toks : List Token) (text : List ℕ) (at : ℕ) → length toks ≤ at → symbols_from text toks at ≡ []
+pub none_left : (toks : List Token) (text : List ℕ) (at : ℕ) → length toks ≤ at → symbols_from text toks at ≡ []
 none_left [] text zero h = refl
 none_left [] text (suc at) h = refl
 none_left (t ∷ toks) text zero h = absurd (omega arith)

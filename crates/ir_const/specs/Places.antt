@@ -1,5 +1,5 @@
 -- Where tokens stand, and which error says that a reader stopped.
-use Rattle.std.specs.Prelude.{ℕ, ◌+◌, ◌-◌, ◌==◌, Bool, List, [], ◌∷◌, length, drop, Option, None, Some, if◌then◌else◌}
+use Rattle.std.specs.Prelude.{ℕ, ◌+◌, ◌-◌, ◌==◌, ◌&&◌, Bool, List, [], ◌∷◌, length, drop, Option, None, Some, if◌then◌else◌}
 use Rattle.ir_grammar.specs.declared.Stop.{Stop}
 use Rattle.ir_grammar.specs.declared.Stop.TheVariants as stop
 use Rattle.ir_lex.specs.declared.token.Token.{Token}
@@ -15,14 +15,14 @@ first_start size (t ∷ toks) = t.start
 abbrev pub place_of : List ℕ → List Token → ℕ → ℕ
 place_of text toks k = first_start (length text) (drop k toks)
 
--- the error where the reader stopped at the token numbered k: behind the bracket where the list was cut, or else at a wrong token
-abbrev pub stopped_at : List ℕ → List Token → Option ℕ → ℕ → ReadError
-stopped_at text toks None k = error.Syntax (place_of text toks k)
-stopped_at text toks (Some end) k = if end == k then error.Deep (place_of text toks (k - 1)) else error.Syntax (place_of text toks k)
+-- the error where a reader of the tokens before the one numbered `end` stopped at the token numbered k: behind the bracket that nests too
+-- deep, where the last of them is such, or else at a wrong token
+abbrev pub stopped_at : List ℕ → List Token → Bool → ℕ → ℕ → ReadError
+stopped_at text toks deep end k = if deep && (end == k) then error.Deep (place_of text toks (k - 1)) else error.Syntax (place_of text toks k)
 
-abbrev pub error_of : List ℕ → List Token → Option ℕ → Stop → ReadError
-error_of text toks cut (stop.WrongSymbol k) = stopped_at text toks cut k
-error_of text toks cut stop.OutOfMemory = error.OutOfMemory
+abbrev pub error_of : List ℕ → List Token → Bool → ℕ → Stop → ReadError
+error_of text toks deep end (stop.WrongSymbol k) = stopped_at text toks deep end k
+error_of text toks deep end stop.OutOfMemory = error.OutOfMemory
 
 -- the number of the token behind the bracket, from the count of symbols up to and with it, which are counted from that number
 abbrev pub cut_of : ℕ → Option ℕ → Option ℕ

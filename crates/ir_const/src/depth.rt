@@ -11,7 +11,7 @@ use ir_lex::Token;
 use ir_symbols::{Meaning, meaning_of};
 
 /// How many brackets are open behind a token, where `depth` are before it.
-fn open_behind(text: &[u8], token: &Token, depth: usize) -> usize
+pub fn open_behind(text: &[u8], token: &Token, depth: usize) -> usize
     requires { depth < 65 }
     ensures { result ≡ open_behind depth (symbol_of text.now token.now) }
 {

@@ -3,6 +3,7 @@
 ghost use Rattle.std.specs.Prelude.{◌≡◌, length};
 ghost use Rattle.ir_const.specs.Places.{place_of, error_of};
 
+use crate::reach::Reach;
 use ir_grammar::Stop;
 use ir_lex::Token;
 use thiserror::Error;
@@ -39,19 +40,17 @@ pub fn place_of(text: &[u8], toks: &[Token], number: usize) -> usize
     }
 }
 
-/// The error where a reader stopped that was given the tokens up to `cut`, or all of them.
-pub fn error_of(text: &[u8], toks: &[Token], cut: Option<usize>, stop: Stop) -> ReadError
-    ensures { result ≡ error_of text.now toks.now cut stop }
+/// The error where a reader stopped that was given the tokens so far.
+pub fn error_of(text: &[u8], toks: &[Token], reach: Reach, stop: Stop) -> ReadError
+    ensures { result ≡ error_of text.now toks.now reach.deep reach.end stop }
 {
     match stop {
         Stop::OutOfMemory => ReadError::OutOfMemory,
-        Stop::WrongSymbol(number) => match cut {
-            Some(end) if end == number => ReadError::Deep {
-                at: place_of(text, toks, number.saturating_sub(1)),
-            },
-            _ => ReadError::Syntax {
-                at: place_of(text, toks, number),
-            },
+        Stop::WrongSymbol(number) if reach.deep && reach.end == number => ReadError::Deep {
+            at: place_of(text, toks, number.saturating_sub(1)),
+        },
+        Stop::WrongSymbol(number) => ReadError::Syntax {
+            at: place_of(text, toks, number),
         },
     }
 }

@@ -3,6 +3,7 @@
 
 mod depth;
 mod error;
+mod reach;
 mod reading;
 
 pub use const_printer::{print_const, print_ty};

@@ -8,8 +8,8 @@ ghost use Rattle.const_grammar.specs.Types.{ty};
 ghost use Rattle.const_grammar.specs.Constants.{const};
 ghost use Rattle.ir_const.specs.Answers.{Answers};
 
-use crate::depth::deep_end;
 use crate::error::{ReadError, error_of};
+use crate::reach::reach_of;
 use const_reader::const_at;
 use ir_lex::Token;
 use ir_tree::names::Names;
@@ -21,7 +21,8 @@ use type_reader::type_at;
 /// behind it. Its names are numbered in `names`, which only grows, also where an error is answered.
 ///
 /// The tokens are those of a text, or what was kept of them. There is room for a name a token. The time
-/// is linear in the tokens from `from` on.
+/// is linear in the tokens of the type; where none begins there, in those up to the wrong one and a closing
+/// bracket behind it.
 ///
 /// # Errors
 ///
@@ -40,11 +41,10 @@ pub fn read_ty(
     ensures grows { Grows names.old names.new }
     ensures known { IfOk result (λ x. ty_known (length names.new) x.0 ≡ true) }
 {
-    let cut = deep_end(text, toks, from);
-    let end = cut.unwrap_or(toks.len());
-    match type_at(alloc, text, &toks[..end], from, toks.len(), names) {
+    let reach = reach_of(text, toks, from);
+    match type_at(alloc, text, &toks[..reach.end], from, toks.len(), names) {
         Ok(read) => Ok(read),
-        Err(stop) => Err(error_of(text, toks, cut, stop)),
+        Err(stop) => Err(error_of(text, toks, reach, stop)),
     }
 }
 
@@ -66,10 +66,9 @@ pub fn read_const(
     ensures grows { Grows names.old names.new }
     ensures known { IfOk result (λ x. const_known (length names.new) x.0 ≡ true) }
 {
-    let cut = deep_end(text, toks, from);
-    let end = cut.unwrap_or(toks.len());
-    match const_at(alloc, text, &toks[..end], from, toks.len(), names) {
+    let reach = reach_of(text, toks, from);
+    match const_at(alloc, text, &toks[..reach.end], from, toks.len(), names) {
         Ok(read) => Ok(read),
-        Err(stop) => Err(error_of(text, toks, cut, stop)),
+        Err(stop) => Err(error_of(text, toks, reach, stop)),
     }
 }

@@ -1,7 +1,7 @@
 use super::*;
 use ir_lex::tokens;
 use ir_tree::names::Names;
-use ir_tree::types::Const;
+use ir_tree::types::{Const, Ty};
 use std::alloc::{AllocError, Global};
 use std::process::Abort;
 use std::test::Fail;
@@ -268,5 +268,27 @@ fn reads_many_elements(rt: HostRuntime) -> Result<(), Fail> {
         Const::Array(elements) => assert_eq!(rt; elements.len(), 200_000),
         _ => panic!(rt; "it was read as something else"),
     }
+    Ok(())
+}
+
+/// Types are read one after another, each in the time that its own tokens take.
+#[test]
+fn reads_many_types(rt: HostRuntime) -> Result<(), Fail> {
+    let text = "{i8, [2 x ptr]} ".repeat(rt.alloc(), 100_000)?;
+    let toks = tokens(rt.alloc(), text.as_bytes())?;
+    let mut names = Names::new(rt.alloc());
+    let mut from = 0;
+    for _ in 0..100_000 {
+        assert!(rt; toks.len() < 1 << 31);
+        assert!(rt; names.len() < 1 << 30);
+        assert!(rt; from <= toks.len());
+        let (ty, next) = read_ty(rt.alloc(), text.as_bytes(), &toks, from, &mut names)?;
+        match &ty {
+            Ty::Struct(fields, false) => assert_eq!(rt; fields.len(), 2),
+            _ => panic!(rt; "it was read as something else"),
+        }
+        from = next;
+    }
+    assert_eq!(rt; from, toks.len());
     Ok(())
 }
