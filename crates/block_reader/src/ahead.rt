@@ -2,13 +2,13 @@
 
 ghost use Rattle.std.specs.Prelude.{◌≡◌, ◌≤◌, length, drop};
 ghost use Rattle.ir_grammar.specs.Reader.{heads, opens};
-ghost use Rattle.ir_lex.specs.Symbols.{KeywordSymbol, symbols_of};
-ghost use Rattle.inst_grammar.specs.Operands.{local_name};
-ghost use Rattle.inst_grammar.specs.Instructions.{phi_word, inst_head};
+ghost use Rattle.ir_lex.specs.Symbols.{symbols_of};
+ghost use Rattle.inst_grammar.specs.Instructions.{phi_word};
 ghost use Rattle.module_grammar.specs.Blocks.{begins_inst};
 ghost use Rattle.block_reader.specs.Lines.{is_phi_line};
 ghost use Rattle.block_reader.specs.Spots.{start_of};
 
+use inst_reader::is_inst_word;
 use ir_lex::{Keyword, Token};
 use ir_symbols::{Meaning, after_mark, meaning_at};
 
@@ -19,17 +19,6 @@ pub fn start_at(toks: &[Token], at: usize) -> usize
     match toks.get(at) {
         Some(token) => token.start,
         None => 0,
-    }
-}
-
-/// Whether there is a Local at `at`.
-pub fn is_local(text: &[u8], toks: &[Token], at: usize) -> bool
-    requires { at ≤ length (symbols_of text.now toks.now) }
-    ensures { result ≡ opens (heads local_name) (drop at (symbols_of text.now toks.now)) }
-{
-    match meaning_at(text, toks, at) {
-        Some(Meaning::Local(_)) => true,
-        _ => false,
     }
 }
 
@@ -56,39 +45,6 @@ pub fn begins_phi(text: &[u8], toks: &[Token], at: usize) -> bool
             None => false,
         },
         Some(Meaning::Keyword(Keyword::Phi)) => true,
-        _ => false,
-    }
-}
-
-/// Whether an instruction begins with the word.
-fn is_inst_word(word: Keyword) -> bool
-    ensures { result ≡ heads inst_head (KeywordSymbol word) }
-{
-    match word {
-        Keyword::Add
-        | Keyword::Sub
-        | Keyword::Mul
-        | Keyword::Shl
-        | Keyword::Udiv
-        | Keyword::Sdiv
-        | Keyword::Lshr
-        | Keyword::Ashr
-        | Keyword::Urem
-        | Keyword::Srem
-        | Keyword::And
-        | Keyword::Or
-        | Keyword::Xor
-        | Keyword::Icmp
-        | Keyword::Select
-        | Keyword::Zext
-        | Keyword::Sext
-        | Keyword::Trunc
-        | Keyword::Freeze
-        | Keyword::Alloca
-        | Keyword::Load
-        | Keyword::Store
-        | Keyword::GetElementPtr
-        | Keyword::Call => true,
         _ => false,
     }
 }

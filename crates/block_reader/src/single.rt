@@ -9,7 +9,6 @@ ghost use Rattle.ir_tree.specs.Known.{name_known, result_known, inst_known};
 ghost use Rattle.module_grammar.specs.Blocks.{run_result, run_inst_line};
 ghost use Rattle.block_reader.specs.Lines.{run_maybe_result, run_phi_line};
 
-use crate::ahead::is_local;
 use inst_reader::{inst_at, phi_at};
 use ir_grammar::Stop;
 use ir_lex::Token;
@@ -17,7 +16,7 @@ use ir_symbols::mark_at;
 use ir_tree::module::Inst;
 use ir_tree::names::{NameId, Names};
 use std::alloc::Global;
-use value_reader::local_at;
+use value_reader::{begins_local, local_at};
 
 /// The name of the result at `at`, and the number of the token behind its `=`.
 fn result_at(
@@ -56,7 +55,7 @@ fn maybe_result_at(
     ensures reads { Gives (λ o. option_map (name_shape names.new) o) (symbols_of text.now toks.now) result
         (run_maybe_result (drop at (symbols_of text.now toks.now))) }
 {
-    if is_local(text, toks, at) {
+    if begins_local(text, toks, at) {
         let (name, next) = result_at(alloc, text, toks, at, names)?;
         Ok((Some(name), next))
     } else {

@@ -3,7 +3,7 @@
 ghost use Rattle.std.specs.Prelude.{◌≡◌, ◌+◌, ◌≤◌, true, false, length, drop, option_map, IfOk, MatchOption};
 ghost use Rattle.ir_grammar.specs.Reader.{Got, heads, opens, run_one};
 ghost use Rattle.ir_grammar.specs.Code.{Gives, Steps};
-ghost use Rattle.ir_lex.specs.Symbols.{KeywordSymbol, symbols_of, number_in};
+ghost use Rattle.ir_lex.specs.Symbols.{KeywordSymbol, symbols_of};
 ghost use Rattle.inst_grammar.specs.Operands.{asked, into};
 ghost use Rattle.inst_grammar.specs.Arithmetic.{wrap_flag, run_wrap_flags, run_exact_flag};
 ghost use Rattle.inst_grammar.specs.Instructions.{phi_word, inst_head};
@@ -85,6 +85,13 @@ fn head_of(word: Keyword) -> Option<Head>
     })
 }
 
+/// Whether an instruction begins with a word, behind its result if it has one; `phi` begins none.
+pub fn is_inst_word(word: Keyword) -> bool
+    ensures { result ≡ heads inst_head (KeywordSymbol word) }
+{
+    head_of(word).is_some()
+}
+
 /// The head of the instruction at `at`, and the number of the next token.
 pub fn head_at(text: &[u8], toks: &[Token], at: usize) -> Result<(Head, usize), Stop>
     requires { at ≤ length (symbols_of text.now toks.now) }
@@ -123,19 +130,6 @@ pub fn into_at(text: &[u8], toks: &[Token], at: usize) -> Result<usize, Stop>
 {
     match meaning_at(text, toks, at) {
         Some(Meaning::Keyword(Keyword::To)) => Ok(at + 1),
-        _ => Err(Stop::WrongSymbol(at)),
-    }
-}
-
-/// The number at `at`, and the number of the next token.
-pub fn number_at(text: &[u8], toks: &[Token], at: usize) -> Result<(i128, usize), Stop>
-    requires { at ≤ length (symbols_of text.now toks.now) }
-    ensures reads { Gives (λ n. n) (symbols_of text.now toks.now) result
-        (run_one number_in (drop at (symbols_of text.now toks.now))) }
-    ensures next { IfOk result (λ x. x.1 ≡ at + 1) }
-{
-    match meaning_at(text, toks, at) {
-        Some(Meaning::Number(number)) => Ok((number, at + 1)),
         _ => Err(Stop::WrongSymbol(at)),
     }
 }

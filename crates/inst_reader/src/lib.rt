@@ -8,5 +8,6 @@ mod memory;
 mod operands;
 mod phi;
 
+pub use heads::is_inst_word;
 pub use instructions::inst_at;
 pub use phi::phi_at;

@@ -12,7 +12,6 @@ ghost use Rattle.ir_tree.specs.Known.{ty_val_known, body_known};
 ghost use Rattle.inst_grammar.specs.Operands.{run_ty_val, run_more_ty_val};
 ghost use Rattle.inst_grammar.specs.Memory.{count_of, run_counted, run_alloca, run_load, run_store, run_get_element, run_call};
 
-use crate::heads::number_at;
 use const_reader::flags_at;
 use ir_grammar::Stop;
 use ir_lex::Token;
@@ -22,7 +21,7 @@ use ir_tree::names::Names;
 use ir_tree::types::Const;
 use std::alloc::Global;
 use type_reader::type_at;
-use value_reader::{global_at, more_ty_val_at, ty_val_at};
+use value_reader::{global_at, integer_at, more_ty_val_at, ty_val_at};
 
 /// How many there are, behind a comma and a type, where a comma is at `at`, and one where it isn't; and
 /// the number of the token behind that.
@@ -45,7 +44,7 @@ fn count_at(
         return Ok((1, at));
     };
     let (_, next) = type_at(alloc, text, toks, next, budget, names)?;
-    number_at(text, toks, next)
+    integer_at(text, toks, next)
 }
 
 /// What follows `alloca`, at `at`, and the number of the token behind it.

@@ -28,6 +28,10 @@ abbrev pub IsWrongAt : List ℕ → List Token → ℕ → Type 0
 IsWrongAt text toks at =
     (k : ℕ) × (k ≤ length toks) × (at ≡ place_of text toks k) × ReadsAll whole_module (symbols_of text toks) (Wrong (drop k (symbols_of text toks)))
 
+-- the place of the first bracket that is the 65th open one
+abbrev pub IsDeepAt : List ℕ → List Token → ℕ → Type 0
+IsDeepAt text toks at = (k : ℕ) × (k < length toks) × (at ≡ place_of text toks k) × IsTooDeep 0 (take (k + 1) (symbols_of text toks))
+
 -- the module that the tokens spell, all of them, or the place of the first wrong one, however many brackets are open
 abbrev pub ReadsWhole : List ℕ → List Token → Result Parsed ParseError → Type 0
 ReadsWhole text toks (Ok parsed) = whole_module (symbols_of text toks) (module_shape parsed.«module»)
@@ -41,6 +45,5 @@ ReadsWhole text toks (Err OutOfMemory) = Unit {0}
 abbrev pub Parses : List ℕ → List Token → Result Parsed ParseError → Type 0
 Parses text toks (Ok parsed) = whole_module (symbols_of text toks) (module_shape parsed.«module») × AreShallow (symbols_of text toks)
 Parses text toks (Err (Syntax at)) = IsWrongAt text toks at × AreShallow (symbols_of text toks)
-Parses text toks (Err (Deep at)) =
-    (k : ℕ) × (k < length toks) × (at ≡ place_of text toks k) × IsTooDeep 0 (take (k + 1) (symbols_of text toks))
+Parses text toks (Err (Deep at)) = IsDeepAt text toks at
 Parses text toks (Err OutOfMemory) = Unit {0}

@@ -1,26 +1,14 @@
 //! The tokens that tell what an item is.
 
 ghost use Rattle.std.specs.Prelude.{◌≡◌, ◌+◌, ◌≤◌, length, drop, IfOk};
-ghost use Rattle.ir_grammar.specs.Reader.{heads, opens, run_one};
+ghost use Rattle.ir_grammar.specs.Reader.{run_one};
 ghost use Rattle.ir_grammar.specs.Code.{Gives, Steps};
 ghost use Rattle.ir_lex.specs.Symbols.{symbols_of};
-ghost use Rattle.inst_grammar.specs.Operands.{local_name};
 ghost use Rattle.module_grammar.specs.Items.{constancy, declare_word, type_word};
 
 use ir_grammar::Stop;
 use ir_lex::{Keyword, Token};
 use ir_symbols::{Meaning, meaning_at};
-
-/// Whether a Local stands at `at`.
-pub fn begins_local(text: &[u8], toks: &[Token], at: usize) -> bool
-    requires { at ≤ length (symbols_of text.now toks.now) }
-    ensures { result ≡ opens (heads local_name) (drop at (symbols_of text.now toks.now)) }
-{
-    match meaning_at(text, toks, at) {
-        Some(Meaning::Local(_)) => true,
-        _ => false,
-    }
-}
 
 /// The number of the token behind `type`, which has to be at `at`.
 pub fn after_type_word(text: &[u8], toks: &[Token], at: usize) -> Result<usize, Stop>

@@ -12,7 +12,6 @@ ghost use Rattle.ir_tree.specs.Known.{param_known, result_known};
 ghost use Rattle.inst_grammar.specs.Operands.{local_name};
 ghost use Rattle.module_grammar.specs.Items.{run_parameter, run_parameters};
 
-use crate::heads::begins_local;
 use ir_grammar::Stop;
 use ir_lex::Token;
 use ir_symbols::{after_mark, mark_at};
@@ -21,7 +20,7 @@ use ir_tree::names::{NameId, Names};
 use ir_tree::types::Ty;
 use std::alloc::{AllocError, Global};
 use type_reader::type_at;
-use value_reader::local_at;
+use value_reader::{begins_local, local_at};
 
 /// The parameters between brackets from `at` on, and the number of the token behind them.
 pub fn parameters_at(

@@ -51,9 +51,9 @@ kept_not_refused : (text kind : List ℕ) (kept : List Token) (m : ModuleShape) 
 kept_not_refused text kind kept m inside shallow spelled (inl (at, len, first, is)) =
     let wrong : ◌≡◌ {A = Option (ℕ × ℕ)} None (Some (at, len)) = sym inside ∙ first in
     cc
-kept_not_refused text kind kept m inside shallow spelled (inr (again, inl (k, within, deep, is))) =
+kept_not_refused text kind kept m inside shallow spelled (inr (again, inl (at, (k, within, place, deep), is))) =
     shallow (take (k + 1) (symbols_of text kept)) (drop (k + 1) (symbols_of text kept)) (sym (take-append-drop (k + 1) (symbols_of text kept))) deep
-kept_not_refused text kind kept m inside shallow spelled (inr (again, inr (k, within, still, reads, is))) = reads.1 m spelled
+kept_not_refused text kind kept m inside shallow spelled (inr (again, inr (at, still, (k, within, place, reads), is))) = reads.1 m spelled
 
 -- a text that has a module isn't refused
 pub printed_not_refused : (text kind : List ℕ) (m : ModuleShape) → HasModule text m → RefusesPrint text kind → ⊥

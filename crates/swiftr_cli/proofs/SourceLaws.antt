@@ -18,8 +18,8 @@ few_kept (Ok kept) text toks are is = omega (arith, ap length is, tokens_few tex
 few_kept (Err e) text toks are is = tt
 
 kept_refused : (text kind : List ℕ) (kept : List Token) (error : ParseError) → first_outside text kept ≡ None → Parses text kept (Err error) → kind ≡ parse_kind error → error ≢ parse.OutOfMemory → RefusesTokens text kept kind
-kept_refused text kind kept (parse.Deep at) inside (k, within, place, deep) is some = inr (inside, inl (k, within, deep, is ∙ ap deep_kind place))
-kept_refused text kind kept (parse.Syntax at) inside ((k, within, place, reads), shallow) is some = inr (inside, inr (k, within, shallow, reads, is ∙ ap syntax_kind place))
+kept_refused text kind kept (parse.Deep at) inside deep is some = inr (inside, inl (at, deep, is))
+kept_refused text kind kept (parse.Syntax at) inside (wrong, shallow) is some = inr (inside, inr (at, shallow, wrong, is))
 kept_refused text kind kept parse.OutOfMemory inside reads is some = absurd (some refl)
 
 -- the kind of the refusal where they spell no module, or nest too deep

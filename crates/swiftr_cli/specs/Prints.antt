@@ -1,16 +1,12 @@
 -- The module that a text has, its printed form, and why a text is refused.
-use Rattle.std.specs.Prelude.{◌≡◌, ◌⊎◌, ℕ, ◌+◌, ◌<◌, ◌≤◌, List, [], ◌++◌, length, take, drop, codes, decimal, Some, None}
+use Rattle.std.specs.Prelude.{◌≡◌, ◌⊎◌, ℕ, ◌<◌, ◌≤◌, List, [], ◌++◌, length, take, drop, codes, decimal, Some, None}
 use Rattle.ir_lex.specs.Tokens.{AreTokens, IsBad}
 use Rattle.ir_lex.specs.Quiet.{kept_of, first_outside}
 use Rattle.ir_lex.specs.Symbols.{symbols_of}
 use Rattle.ir_lex.specs.declared.token.Token.{Token}
-use Rattle.ir_grammar.specs.Reader.{Wrong}
-use Rattle.ir_grammar.specs.FirstWrong.{ReadsAll}
-use Rattle.const_grammar.specs.Depth.{IsTooDeep}
-use Rattle.ir_const.specs.Places.{place_of}
 use Rattle.ir_tree.specs.Shape.{ModuleShape}
 use Rattle.module_grammar.specs.Modules.{whole_module}
-use Rattle.ir_parse.specs.Answers.{AreShallow}
+use Rattle.ir_parse.specs.Answers.{AreShallow, IsWrongAt, IsDeepAt}
 use Rattle.ir_print.specs.Printed.{module_text}
 use Rattle.swiftr_cli.specs.Loads.{most_text}
 use Rattle.swiftr_cli.specs.Yield.{Yield}
@@ -46,14 +42,11 @@ RefusesWord text kept kind = (at len : ℕ) × (first_outside text kept ≡ Some
 
 -- some bracket is the 65th open one: the first such one is named
 abbrev pub RefusesDepth : List ℕ → List Token → List ℕ → Type 0
-RefusesDepth text kept kind =
-    (k : ℕ) × (k < length kept) × IsTooDeep 0 (take (k + 1) (symbols_of text kept)) × (kind ≡ deep_kind (place_of text kept k))
+RefusesDepth text kept kind = (at : ℕ) × IsDeepAt text kept at × (kind ≡ deep_kind at)
 
 -- no bracket is, and the tokens spell no module: the first wrong one is named, or where none is wrong the end of the text
 abbrev pub RefusesModule : List ℕ → List Token → List ℕ → Type 0
-RefusesModule text kept kind =
-    (k : ℕ) × (k ≤ length kept) × AreShallow (symbols_of text kept)
-    × ReadsAll whole_module (symbols_of text kept) (Wrong (drop k (symbols_of text kept))) × (kind ≡ syntax_kind (place_of text kept k))
+RefusesModule text kept kind = (at : ℕ) × AreShallow (symbols_of text kept) × IsWrongAt text kept at × (kind ≡ syntax_kind at)
 
 -- why kept tokens are refused, each kind exactly where it comes
 abbrev pub RefusesTokens : List ℕ → List Token → List ℕ → Type 0

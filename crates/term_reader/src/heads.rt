@@ -3,7 +3,7 @@
 ghost use Rattle.std.specs.Prelude.{◌≡◌, ◌+◌, ◌≤◌, length, drop, IfOk, IfSome};
 ghost use Rattle.ir_grammar.specs.Reader.{opens, run_one};
 ghost use Rattle.ir_grammar.specs.Code.{Gives, Tries};
-ghost use Rattle.ir_lex.specs.Symbols.{symbols_of, number_in};
+ghost use Rattle.ir_lex.specs.Symbols.{symbols_of};
 ghost use Rattle.inst_grammar.specs.Operands.{begins_val};
 ghost use Rattle.inst_grammar.specs.Terminators.{term_head, void_word};
 ghost use Rattle.term_reader.specs.Heads.{head_from};
@@ -37,19 +37,6 @@ pub fn head_at(text: &[u8], toks: &[Token], at: usize) -> Result<(Head, usize), 
         Some(Meaning::Keyword(Keyword::Switch)) => Ok((Head::Switch, at + 1)),
         Some(Meaning::Keyword(Keyword::Ret)) => Ok((Head::Ret, at + 1)),
         Some(Meaning::Keyword(Keyword::Unreachable)) => Ok((Head::Unreachable, at + 1)),
-        _ => Err(Stop::WrongSymbol(at)),
-    }
-}
-
-/// The integer at `at`, and the number of the next token.
-pub fn integer_at(text: &[u8], toks: &[Token], at: usize) -> Result<(i128, usize), Stop>
-    requires { at ≤ length (symbols_of text.now toks.now) }
-    ensures reads { Gives (λ z. z) (symbols_of text.now toks.now) result
-        (run_one number_in (drop at (symbols_of text.now toks.now))) }
-    ensures next { IfOk result (λ x. x.1 ≡ at + 1) }
-{
-    match meaning_at(text, toks, at) {
-        Some(Meaning::Number(number)) => Ok((number, at + 1)),
         _ => Err(Stop::WrongSymbol(at)),
     }
 }

@@ -13,7 +13,7 @@ ghost use Rattle.inst_grammar.specs.Operands.{begins_val, run_val};
 ghost use Rattle.inst_grammar.specs.Terminators.{BrWord, return_of, run_ret, run_switch, run_switch_case, run_term, run_term_rest, run_two_ways};
 ghost use Rattle.term_reader.specs.Heads.{head_from};
 
-use crate::heads::{Head, after_void, begins_value, head_at, integer_at};
+use crate::heads::{Head, after_void, begins_value, head_at};
 use ir_grammar::Stop;
 use ir_lex::Token;
 use ir_symbols::{after_mark, mark_at};
@@ -22,7 +22,7 @@ use ir_tree::names::Names;
 use ir_tree::types::Ty;
 use std::alloc::Global;
 use type_reader::type_at;
-use value_reader::{after_label, local_at, more_target_at, ty_val_at, val_at};
+use value_reader::{after_label, integer_at, local_at, more_target_at, ty_val_at, val_at};
 
 /// The terminator at `at`, and the number of the token behind it. At most `budget` tokens are read.
 pub fn term_at(

@@ -1,11 +1,11 @@
-//! Names, values and their types, read from tokens.
+//! Names, numbers, values and their types, read from tokens.
 #![tactic(auto)]
 
 ghost use Rattle.std.specs.Prelude.{◌≡◌, ◌+◌, ◌^◌, ◌<◌, ◌≤◌, length, drop, true, false, IfOk, IfSome, MatchOption};
 ghost use Rattle.ir_grammar.specs.Reader.{Got, heads, opens, run_one};
 ghost use Rattle.ir_grammar.specs.Code.{Gives, Steps, Tries};
 ghost use Rattle.ir_lex.specs.Meaning.{name_of};
-ghost use Rattle.ir_lex.specs.Symbols.{symbols_of};
+ghost use Rattle.ir_lex.specs.Symbols.{symbols_of, number_in};
 ghost use Rattle.ir_tree.specs.NameTable.{Grows};
 ghost use Rattle.ir_tree.specs.ShapeOf.{name_shape, val_shape, ty_val_shape};
 ghost use Rattle.ir_tree.specs.Known.{name_known, val_known, ty_val_known};
@@ -33,6 +33,30 @@ fn local_token_at(text: &[u8], toks: &[Token], at: usize) -> Option<Token>
     match meaning_at(text, toks, at) {
         Some(Meaning::Local(token)) => Some(token),
         _ => None,
+    }
+}
+
+/// Whether there is a Local at `at`.
+pub fn begins_local(text: &[u8], toks: &[Token], at: usize) -> bool
+    requires { at ≤ length (symbols_of text.now toks.now) }
+    ensures { result ≡ opens (heads local_name) (drop at (symbols_of text.now toks.now)) }
+{
+    match meaning_at(text, toks, at) {
+        Some(Meaning::Local(_)) => true,
+        _ => false,
+    }
+}
+
+/// The integer at `at`, and the number of the token behind it.
+pub fn integer_at(text: &[u8], toks: &[Token], at: usize) -> Result<(i128, usize), Stop>
+    requires { at ≤ length (symbols_of text.now toks.now) }
+    ensures reads { Gives (λ z. z) (symbols_of text.now toks.now) result
+        (run_one number_in (drop at (symbols_of text.now toks.now))) }
+    ensures next { IfOk result (λ x. x.1 ≡ at + 1) }
+{
+    match meaning_at(text, toks, at) {
+        Some(Meaning::Number(number)) => Ok((number, at + 1)),
+        _ => Err(Stop::WrongSymbol(at)),
     }
 }
 
