@@ -1,21 +1,21 @@
 -- From a reader of the tokens as far as one type or constant goes to the answer for all tokens.
 use Rattle.std.proofs.Common.{◌≡◌, ℕ, ◌+◌, ◌-◌, ◌==◌, ◌≤◌, ◌<◌, ◌⊎◌, Bool, true, false, List, [], ◌∷◌, ◌++◌, length, take, drop, None, Some, Result, Ok, Err, refl, sym, ◌∙◌, ap, subst, arith, inl, inr, eq-eqb, eqb-true}
 use Rattle.std.proofs.lemmas.List.{drop-take, length-drop, length-take-le, take-append-drop, append-nil}
-use Rattle.ir_grammar.specs.Language.{Lang}
-use Rattle.ir_grammar.specs.Reader.{Got, Wrong, Reader}
-use Rattle.ir_grammar.specs.FirstWrong.{Reads}
-use Rattle.ir_grammar.specs.Code.{Gives}
-use Rattle.ir_grammar.specs.declared.Stop.{Stop}
-use Rattle.ir_grammar.specs.declared.Stop.TheVariants.{WrongSymbol, OutOfMemory}
-use Rattle.ir_grammar.proofs.Good.{never, Good}
-use Rattle.ir_grammar.proofs.Reading.{reads, reads_on, wrong_stays}
+use Rattle.grammar.specs.Language.{Lang}
+use Rattle.grammar.specs.Reader.{Got, Wrong, Reader}
+use Rattle.grammar.specs.FirstWrong.{Reads}
+use Rattle.grammar.specs.Code.{Gives}
+use Rattle.grammar.specs.declared.Stop.{Stop}
+use Rattle.grammar.specs.declared.Stop.TheVariants.{WrongSymbol, OutOfMemory}
+use Rattle.grammar.proofs.Good.{never, Good}
+use Rattle.grammar.proofs.Reading.{reads, reads_on, wrong_stays}
 use Rattle.ir_lex.specs.Symbols.{Symbol, symbols_of}
 use Rattle.ir_lex.specs.declared.token.Token.{Token}
-use Rattle.const_grammar.specs.Depth.{IsShallow}
-use Rattle.const_grammar.specs.Counting.{deep_len}
-use Rattle.const_grammar.proofs.Depths.{deep_found}
-use Rattle.const_grammar.proofs.Ends.{Ends}
-use Rattle.const_grammar.proofs.DeepLaw.{closed_end, cut_got, cut_wrong, cut_deep}
+use Rattle.ir_grammar_consts.specs.Depth.{IsShallow}
+use Rattle.ir_grammar_consts.specs.Counting.{deep_len}
+use Rattle.ir_grammar_consts.proofs.Depths.{deep_found}
+use Rattle.ir_grammar_consts.proofs.Ends.{Ends}
+use Rattle.ir_grammar_consts.proofs.DeepLaw.{closed_end, cut_got, cut_wrong, cut_deep}
 use Rattle.ir_const.specs.Places.{stopped_at, error_of}
 use Rattle.ir_const.specs.Answers.{symbols_from, Answers}
 use Rattle.ir_const.specs.Reach.{reach}

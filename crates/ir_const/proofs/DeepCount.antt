@@ -3,11 +3,11 @@ use Rattle.std.proofs.Common.{◌≡◌, ℕ, zero, suc, ◌+◌, ◌==◌, ◌�
 use Rattle.std.specs.Option.{option_map}
 use Rattle.ir_lex.specs.Symbols.{Symbol, symbol_of}
 use Rattle.ir_lex.specs.declared.token.Token.{Token}
-use Rattle.ir_symbols.proofs.Cursor.{drop_symbols}
-use Rattle.const_grammar.proofs.Depths.{behind_low}
-use Rattle.const_grammar.specs.Depth.{open_behind}
-use Rattle.const_grammar.specs.Counting.{deep_len}
-use Rattle.const_grammar.proofs.Sides.{is_false}
+use Rattle.ir_cursor.proofs.Cursor.{drop_symbols}
+use Rattle.ir_grammar_consts.proofs.Depths.{behind_low}
+use Rattle.ir_grammar_consts.specs.Depth.{open_behind}
+use Rattle.ir_grammar_consts.specs.Counting.{deep_len}
+use Rattle.ir_grammar_consts.proofs.Sides.{is_false}
 use Rattle.ir_const.specs.Places.{cut_of}
 use Rattle.ir_const.specs.Answers.{symbols_from}
 

@@ -1,11 +1,11 @@
 -- Rules that close each bracket which they open, and no other.
 use Rattle.std.proofs.Common.{◌≡◌, ℕ, ◌+◌, ◌<◌, List, [], ◌∷◌, ◌++◌, Option, Some, refl, sym, ◌∙◌, ap, subst, arith, append_assoc, inl, inr, is_some}
 use Rattle.std.proofs.lemmas.List.{append_cancel_left}
-use Rattle.ir_grammar.specs.Language.{Lang, Mark, empty, one, skip, seq, map_to, many, up_to, items, until, listed}
+use Rattle.grammar.specs.Language.{Lang, Mark, empty, one, skip, seq, map_to, many, up_to, items, until, listed}
 use Rattle.ir_lex.specs.Symbols.{Symbol, MarkSymbol}
-use Rattle.ir_symbols.specs.Marks.{punct}
-use Rattle.const_grammar.specs.Depth.{open_behind, open_from}
-use Rattle.const_grammar.proofs.Sides.{punct_is}
+use Rattle.ir_cursor.specs.Marks.{punct}
+use Rattle.ir_grammar_consts.specs.Depth.{open_behind, open_from}
+use Rattle.ir_grammar_consts.proofs.Sides.{punct_is}
 
 -- a symbol that opens a bracket, that closes one, and that does neither
 abbrev pub Opens : Symbol → Type 0

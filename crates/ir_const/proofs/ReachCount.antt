@@ -2,9 +2,9 @@
 use Rattle.std.proofs.Common.{◌≡◌, ℕ, zero, suc, ◌+◌, ◌==◌, ◌&&◌, ◌≤◌, ◌<◌, Bool, true, false, not, List, length, refl, sym, ◌∙◌, arith, eq-eqb, eqb-true, get_or}
 use Rattle.ir_lex.specs.Symbols.{Symbol, symbol_of}
 use Rattle.ir_lex.specs.declared.token.Token.{Token}
-use Rattle.ir_symbols.proofs.Cursor.{drop_symbols}
-use Rattle.const_grammar.specs.Depth.{open_behind}
-use Rattle.const_grammar.proofs.Sides.{is_false}
+use Rattle.ir_cursor.proofs.Cursor.{drop_symbols}
+use Rattle.ir_grammar_consts.specs.Depth.{open_behind}
+use Rattle.ir_grammar_consts.proofs.Sides.{is_false}
 use Rattle.ir_const.specs.Reach.{is_address_word, one_more, reach}
 use Rattle.ir_const.specs.Answers.{symbols_from}
 use Rattle.ir_const.proofs.DeepCount.{apart_65, got_or, none_left}

@@ -2,15 +2,15 @@
 use Rattle.std.proofs.Common.{◌≡◌, ℕ, suc, ◌≤◌, ◌==◌, ◌&&◌, ◌⊎◌, Bool, true, false, not, List, [], ◌∷◌, ◌++◌, length, take, None, Some, refl, sym, ◌∙◌, ap, subst, arith, inl, inr, append_assoc, length-append, if◌then◌else◌, eqb-true}
 use Rattle.std.specs.Option.{option_map}
 use Rattle.std.proofs.lemmas.List.{append-nil}
-use Rattle.ir_grammar.specs.Language.{Lang}
-use Rattle.ir_grammar.specs.Reader.{Wrong, Reader}
-use Rattle.ir_grammar.specs.FirstWrong.{Begins, Reads}
-use Rattle.ir_grammar.proofs.Good.{never, Good, clear_never}
-use Rattle.ir_grammar.proofs.Reading.{reads, reads_begun, one_reading}
+use Rattle.grammar.specs.Language.{Lang}
+use Rattle.grammar.specs.Reader.{Wrong, Reader}
+use Rattle.grammar.specs.FirstWrong.{Begins, Reads}
+use Rattle.grammar.proofs.Good.{never, Good, clear_never}
+use Rattle.grammar.proofs.Reading.{reads, reads_begun, one_reading}
 use Rattle.ir_lex.specs.Symbols.{Symbol}
-use Rattle.const_grammar.specs.Depth.{open_behind, open_from, IsShallow}
-use Rattle.const_grammar.specs.Counting.{deep_len}
-use Rattle.const_grammar.proofs.Depths.{deep_counted}
+use Rattle.ir_grammar_consts.specs.Depth.{open_behind, open_from, IsShallow}
+use Rattle.ir_grammar_consts.specs.Counting.{deep_len}
+use Rattle.ir_grammar_consts.proofs.Depths.{deep_counted}
 use Rattle.ir_const.specs.Reach.{is_address_word, one_more, reach}
 use Rattle.ir_const.proofs.Wholes.{Wholes, whole_ends}
 

@@ -2,14 +2,14 @@
 use Rattle.std.proofs.Common.{◌≡◌, ℕ, zero, suc, ◌+◌, ◌==◌, ◌⊎◌, Bool, true, false, List, [], ◌∷◌, ◌++◌, length, None, Some, refl, sym, ◌∙◌, ap, subst, arith, length-append, inl, inr, if◌then◌else◌, eqb-true}
 use Rattle.std.specs.List.{list_all}
 use Rattle.ir_tree.proofs.Grows.{and_left, and_right}
-use Rattle.ir_grammar.specs.Language.{Lang, Mark, one, many, nothing, nested, recursive}
+use Rattle.grammar.specs.Language.{Lang, Mark, one, many, nothing, nested, recursive}
 use Rattle.ir_tree.specs.Shape.{TyShape, ConstShape}
 use Rattle.ir_words.specs.declared.words.Keyword.TheVariants.{Integer, Ptr, Void, True, False, Null, Undef, Poison, ZeroInitializer, GetElementPtr, InBounds, Nuw}
 use Rattle.ir_lex.specs.Symbols.{Symbol, KeywordSymbol, LocalSymbol, GlobalSymbol, NumberSymbol, TextSymbol, MarkSymbol}
-use Rattle.ir_symbols.specs.Marks.{punct}
-use Rattle.const_grammar.specs.Depth.{open_behind, open_from}
-use Rattle.const_grammar.specs.Types.{count, times, is_width, TyHead, WholeType, ArrayOpen, FieldsOpen, PackedOpen, ty_head, ty_rest, ty_rule, ty}
-use Rattle.const_grammar.specs.Constants.{address_flag, ConstHead, WholeConst, ElementsOpen, ValuesOpen, PackedValuesOpen, AddressOpen, const_head, typed_const, operands, const_rest, const_rule, const}
+use Rattle.ir_cursor.specs.Marks.{punct}
+use Rattle.ir_grammar_consts.specs.Depth.{open_behind, open_from}
+use Rattle.ir_grammar_consts.specs.Types.{count, times, is_width, TyHead, WholeType, ArrayOpen, FieldsOpen, PackedOpen, ty_head, ty_rest, ty_rule, ty}
+use Rattle.ir_grammar_consts.specs.Constants.{address_flag, ConstHead, WholeConst, ElementsOpen, ValuesOpen, PackedValuesOpen, AddressOpen, const_head, typed_const, operands, const_rest, const_rule, const}
 use Rattle.ir_const.specs.Reach.{is_address_word}
 use Rattle.ir_const.proofs.Even.{Opens, Closes, IsPlain, IsEven, even_nil, even_plain, even_append, even_bracket, closed_past, Evens, IsClosed, AreClosed, evens_one, evens_skip, evens_seq, evens_map, closed_map, closed_seq, closed_skip, closed_up_to, closed_listed, closed_until, closed_packed, mark_of}
 

@@ -1,11 +1,11 @@
 -- What a reader of types or constants answers.
 use Rattle.std.specs.Prelude.{◌≡◌, ℕ, ◌+◌, ◌<◌, ◌≤◌, List, length, drop, take, Result, Ok, Err}
-use Rattle.ir_grammar.specs.Language.{Lang}
-use Rattle.ir_grammar.specs.Reader.{Got, Wrong}
-use Rattle.ir_grammar.specs.FirstWrong.{Reads}
+use Rattle.grammar.specs.Language.{Lang}
+use Rattle.grammar.specs.Reader.{Got, Wrong}
+use Rattle.grammar.specs.FirstWrong.{Reads}
 use Rattle.ir_lex.specs.Symbols.{Symbol, symbols_of}
 use Rattle.ir_lex.specs.declared.token.Token.{Token}
-use Rattle.const_grammar.specs.Depth.{IsDeep, IsShallow}
+use Rattle.ir_grammar_consts.specs.Depth.{IsDeep, IsShallow}
 use Rattle.ir_const.specs.Places.{place_of}
 use Rattle.ir_const.specs.declared.error.ReadError.{ReadError}
 use Rattle.ir_const.specs.declared.error.ReadError.TheVariants.{Deep, Syntax, OutOfMemory}

@@ -1,7 +1,7 @@
 -- Where tokens stand, and which error says that a reader stopped.
 use Rattle.std.specs.Prelude.{ℕ, ◌+◌, ◌-◌, ◌==◌, ◌&&◌, Bool, List, [], ◌∷◌, length, drop, Option, None, Some, if◌then◌else◌}
-use Rattle.ir_grammar.specs.declared.Stop.{Stop}
-use Rattle.ir_grammar.specs.declared.Stop.TheVariants as stop
+use Rattle.grammar.specs.declared.Stop.{Stop}
+use Rattle.grammar.specs.declared.Stop.TheVariants as stop
 use Rattle.ir_lex.specs.declared.token.Token.{Token}
 use Rattle.ir_const.specs.declared.error.ReadError.{ReadError}
 use Rattle.ir_const.specs.declared.error.ReadError.TheVariants as error

@@ -2,7 +2,7 @@
 use Rattle.std.specs.Prelude.{ℕ, suc, ◌==◌, ◌&&◌, Bool, true, false, not, List, [], ◌∷◌, if◌then◌else◌}
 use Rattle.ir_words.specs.declared.words.Keyword.TheVariants.{GetElementPtr, InBounds, Nuw}
 use Rattle.ir_lex.specs.Symbols.{Symbol, KeywordSymbol}
-use Rattle.const_grammar.specs.Depth.{open_behind}
+use Rattle.ir_grammar_consts.specs.Depth.{open_behind}
 
 -- the words that a constant may have before its first bracket: `getelementptr` and its flags
 abbrev pub is_address_word : Symbol → Bool

@@ -2,13 +2,13 @@
 
 ghost use Rattle.std.specs.Prelude.{◌≡◌, ◌+◌, ◌<◌, ◌≤◌, length, drop, IfSome};
 ghost use Rattle.ir_lex.specs.Symbols.{symbol_of, symbols_of};
-ghost use Rattle.const_grammar.specs.Depth.{open_behind};
-ghost use Rattle.const_grammar.specs.Counting.{deep_len};
+ghost use Rattle.ir_grammar_consts.specs.Depth.{open_behind};
+ghost use Rattle.ir_grammar_consts.specs.Counting.{deep_len};
 ghost use Rattle.ir_const.specs.Answers.{symbols_from};
 ghost use Rattle.ir_const.specs.Places.{cut_of};
 
+use ir_cursor::{Meaning, meaning_of};
 use ir_lex::Token;
-use ir_symbols::{Meaning, meaning_of};
 
 /// How many brackets are open behind a token, where `depth` are before it.
 pub fn open_behind(text: &[u8], token: &Token, depth: usize) -> usize

@@ -4,7 +4,7 @@ ghost use Rattle.std.specs.Prelude.{◌≡◌, length};
 ghost use Rattle.ir_const.specs.Places.{place_of, error_of};
 
 use crate::reach::Reach;
-use ir_grammar::Stop;
+use grammar::Stop;
 use ir_lex::Token;
 use thiserror::Error;
 

@@ -6,9 +6,9 @@ mod error;
 mod reach;
 mod reading;
 
-pub use const_printer::{print_const, print_ty};
 pub use depth::deep_end;
 pub use error::{ReadError, place_of};
+pub use ir_print_consts::{print_const, print_ty};
 pub use reading::{read_const, read_ty};
 
 #[cfg(test)]

@@ -1,8 +1,8 @@
 //! Types and constants beside the texts that they must be printed as.
 
 use crate::{print_const, print_ty, read_const, read_ty};
-use const_printer::{push_const, push_ty};
 use ir_lex::tokens;
+use ir_print_consts::{push_const, push_ty};
 use ir_tree::names::Names;
 use std::alloc::Global;
 use std::process::Abort;

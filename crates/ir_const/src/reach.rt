@@ -6,8 +6,8 @@ ghost use Rattle.ir_const.specs.Answers.{symbols_from};
 ghost use Rattle.ir_const.specs.Reach.{is_address_word, reach};
 
 use crate::depth::open_behind;
+use ir_cursor::{Meaning, meaning_of};
 use ir_lex::{Keyword, Token};
-use ir_symbols::{Meaning, meaning_of};
 
 /// How far one type or constant goes at most.
 #[derive(Clone, Copy)]

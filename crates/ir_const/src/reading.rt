@@ -4,18 +4,17 @@ ghost use Rattle.std.specs.Prelude.{◌≡◌, ◌+◌, ◌^◌, ◌<◌, ◌≤
 ghost use Rattle.ir_tree.specs.NameTable.{Grows};
 ghost use Rattle.ir_tree.specs.ShapeOf.{ty_shape, const_shape};
 ghost use Rattle.ir_tree.specs.Known.{ty_known, const_known};
-ghost use Rattle.const_grammar.specs.Types.{ty};
-ghost use Rattle.const_grammar.specs.Constants.{const};
+ghost use Rattle.ir_grammar_consts.specs.Types.{ty};
+ghost use Rattle.ir_grammar_consts.specs.Constants.{const};
 ghost use Rattle.ir_const.specs.Answers.{Answers};
 
 use crate::error::{ReadError, error_of};
 use crate::reach::reach_of;
-use const_reader::const_at;
 use ir_lex::Token;
+use ir_read_consts::{const_at, type_at};
 use ir_tree::names::Names;
 use ir_tree::types::{Const, Ty};
 use std::alloc::Global;
-use type_reader::type_at;
 
 /// Reads the type that begins at the token numbered `from`, and gives it with the number of the token
 /// behind it. Its names are numbered in `names`, which only grows, also where an error is answered.

@@ -3,11 +3,11 @@ use Rattle.std.proofs.Common.{◌≡◌, ℕ, suc, ◌+◌, ◌≤◌, Bool, tru
 use Rattle.std.specs.List.{list_all}
 use Rattle.std.specs.declared.alloc.Global.{Global}
 use Rattle.std.proofs.lemmas.List.{map-append}
-use Rattle.ir_grammar.specs.Language.{one, mark}
-use Rattle.ir_grammar.specs.Reader.{Out, Got, Wrong, Reader, then_out, heads, opens, run_one, run_skip, run_map, run_seq, run_up_to, run_until}
+use Rattle.grammar.specs.Language.{one, mark}
+use Rattle.grammar.specs.Reader.{Out, Got, Wrong, Reader, then_out, heads, opens, run_one, run_skip, run_map, run_seq, run_up_to, run_until}
 use Rattle.ir_lex.specs.Symbols.{Symbol, symbols_of}
 use Rattle.ir_lex.specs.declared.token.Token.{Token}
-use Rattle.ir_symbols.specs.Marks.{punct}
+use Rattle.ir_cursor.specs.Marks.{punct}
 use Rattle.ir_tree.specs.NameTable.{Grows}
 use Rattle.ir_tree.specs.Shape.{TyShape, InstShape, BlockShape, ParamShape, FunctionShape}
 use Rattle.ir_tree.specs.ShapeOf.{ty_shape, name_shape, inst_shape, block_shape, param_shape, function_shape}
@@ -20,15 +20,15 @@ use Rattle.ir_tree.specs.declared.module.Param.{Param}
 use Rattle.ir_tree.proofs.Grows.{and_both, list_all-weaker}
 use Rattle.ir_tree.proofs.Table.{grows_on}
 use Rattle.ir_tree.proofs.GrowsModule.{inst_shape-append, inst_known-more, block_shape-append, block_known-more, param_shape-append, param_known-more}
-use Rattle.module_grammar.specs.Blocks.{FirstBlock, run_block, run_first_block}
-use Rattle.inst_grammar.specs.Operands.{local_name, global_name}
-use Rattle.module_grammar.specs.Items.{ItemShape, parameter_of, parameter, run_parameter, function_item, define_word, first_name, blocks_of, run_blocks, Signature, signature, run_signature, function_of, run_function}
-use Rattle.type_reader.proofs.NamedItems.{Keeps, NamedUntil, tys_keep, until_named_start, shapes_kept, shapes_more, grows_length}
-use Rattle.value_reader.proofs.Parts.{names_keep, kept_one, stays_one, seq_plain, map_read, skip_read, up_to_read, until_named_next}
-use Rattle.block_reader.specs.Spots.{InPieces, IsEntryAt, IsBlockAt}
-use Rattle.block_reader.proofs.Sound.{Sound, sound_one, sound_skip, sound_map, sound_seq, sound_maybe, sound_listed, sound_up_to}
-use Rattle.block_reader.proofs.SoundLines.{sound_ty}
-use Rattle.block_reader.proofs.Pieces.{pieces_more, slices_joined, no_slice, slice_spelled}
+use Rattle.ir_grammar_modules.specs.Blocks.{FirstBlock, run_block, run_first_block}
+use Rattle.ir_grammar_insts.specs.Operands.{local_name, global_name}
+use Rattle.ir_grammar_modules.specs.Items.{ItemShape, parameter_of, parameter, run_parameter, function_item, define_word, first_name, blocks_of, run_blocks, Signature, signature, run_signature, function_of, run_function}
+use Rattle.ir_read_consts.proofs.NamedItems.{Keeps, NamedUntil, tys_keep, until_named_start, shapes_kept, shapes_more, grows_length}
+use Rattle.ir_read_insts.proofs.ValueParts.{names_keep, kept_one, stays_one, seq_plain, map_read, skip_read, up_to_read, until_named_next}
+use Rattle.ir_read_modules.specs.Spots.{InPieces, IsEntryAt, IsBlockAt}
+use Rattle.ir_read_modules.proofs.Sound.{Sound, sound_one, sound_skip, sound_map, sound_seq, sound_maybe, sound_listed, sound_up_to}
+use Rattle.ir_read_modules.proofs.SoundLines.{sound_ty}
+use Rattle.ir_read_modules.proofs.Pieces.{pieces_more, slices_joined, no_slice, slice_spelled}
 use Rattle.ir_parse.specs.Spots.{IsBodyAt, IsFunctionAt}
 
 pub blocks_keep : Keeps block_shape block_known

@@ -1,30 +1,30 @@
 -- The items of a module: those read so far are what the reader on symbols gives, and their pieces stand one behind another.
 use Rattle.std.proofs.Common.{◌≡◌, ℕ, zero, suc, ◌+◌, ◌≤◌, ◌<◌, true, false, List, [], ◌∷◌, ◌++◌, length, map, drop, slice_range, refl, sym, ◌∙◌, ap, subst, arith}
-use Rattle.ir_grammar.specs.Reader.{Out, Got, then_out, heads, opens, run_many}
-use Rattle.ir_grammar.specs.Code.{Stops}
-use Rattle.ir_grammar.specs.declared.Stop.{Stop}
-use Rattle.ir_grammar.specs.declared.Stop.TheVariants.{WrongSymbol, OutOfMemory}
-use Rattle.ir_grammar.proofs.Loops.{ManyLeft, many_start, many_go_on, many_stop, many_close, many_run_out}
+use Rattle.grammar.specs.Reader.{Out, Got, then_out, heads, opens, run_many}
+use Rattle.grammar.specs.Code.{Stops}
+use Rattle.grammar.specs.declared.Stop.{Stop}
+use Rattle.grammar.specs.declared.Stop.TheVariants.{WrongSymbol, OutOfMemory}
+use Rattle.grammar.proofs.Loops.{ManyLeft, many_start, many_go_on, many_stop, many_close, many_run_out}
 use Rattle.ir_lex.specs.Symbols.{Symbol, symbols_of}
 use Rattle.ir_lex.specs.declared.token.Token.{Token}
-use Rattle.ir_symbols.specs.Marks.{punct}
+use Rattle.ir_cursor.specs.Marks.{punct}
 use Rattle.ir_tree.specs.NameTable.{Grows}
 use Rattle.ir_tree.specs.Shape.{NamedTyShape, GlobalShape, DeclareShape, FunctionShape, ModuleShape}
 use Rattle.ir_tree.specs.ShapeOf.{named_ty_shape, global_shape, declare_shape, function_shape}
 use Rattle.ir_tree.specs.Known.{named_ty_known, global_known, declare_known, function_known}
 use Rattle.ir_tree.proofs.Grows.{and_both, and_left, and_right}
 use Rattle.ir_tree.proofs.GrowsModule.{named_ty_shape-append, named_ty_known-more, global_shape-append, global_known-more, declare_shape-append, declare_known-more, function_shape-append, function_known-more}
-use Rattle.inst_grammar.specs.Operands.{local_name, global_name}
-use Rattle.module_grammar.specs.Items.{ItemShape, type_item, global_item, declare_item, function_item, type_word, constancy, declare_word, define_word, blocks, run_blocks, type_of, global_of, declare_of, function_of, item, run_item}
-use Rattle.module_grammar.specs.Modules.{with_item, module_of, begins_item, run_module}
-use Rattle.module_grammar.proofs.ItemLaw.{starts_item}
-use Rattle.type_reader.proofs.NamedItems.{Keeps, shapes_kept}
-use Rattle.value_reader.proofs.Parts.{map_read}
-use Rattle.block_reader.specs.Spots.{start_of, InPieces}
-use Rattle.block_reader.proofs.Sound.{Sound, sound_one, sound_skip, sound_map, sound_seq, sound_or, sound_until}
-use Rattle.block_reader.proofs.SoundLines.{sound_ty, sound_const}
-use Rattle.block_reader.proofs.SoundBlocks.{sound_block, sound_first_block}
-use Rattle.block_reader.proofs.Pieces.{pieces_more, slices_joined, no_slice, slice_spelled, goes_past, start_of_slice}
+use Rattle.ir_grammar_insts.specs.Operands.{local_name, global_name}
+use Rattle.ir_grammar_modules.specs.Items.{ItemShape, type_item, global_item, declare_item, function_item, type_word, constancy, declare_word, define_word, blocks, run_blocks, type_of, global_of, declare_of, function_of, item, run_item}
+use Rattle.ir_grammar_modules.specs.Modules.{with_item, module_of, begins_item, run_module}
+use Rattle.ir_grammar_modules.proofs.ItemLaw.{starts_item}
+use Rattle.ir_read_consts.proofs.NamedItems.{Keeps, shapes_kept}
+use Rattle.ir_read_insts.proofs.ValueParts.{map_read}
+use Rattle.ir_read_modules.specs.Spots.{start_of, InPieces}
+use Rattle.ir_read_modules.proofs.Sound.{Sound, sound_one, sound_skip, sound_map, sound_seq, sound_or, sound_until}
+use Rattle.ir_read_modules.proofs.SoundLines.{sound_ty, sound_const}
+use Rattle.ir_read_modules.proofs.SoundBlocks.{sound_block, sound_first_block}
+use Rattle.ir_read_modules.proofs.Pieces.{pieces_more, slices_joined, no_slice, slice_spelled, goes_past, start_of_slice}
 use Rattle.ir_parse.specs.Spots.{Place, HasLinesAt, IsItemAt, SpotLists, with_spot, spots_of, with_last_spot, lists_of, AreSpots}
 use Rattle.ir_parse.specs.Drafts.{item_shape, item_lines, draft_shape, draft_known, with_last}
 use Rattle.ir_parse.specs.declared.items.Item.{Item}

@@ -2,27 +2,27 @@
 use Rattle.std.proofs.Common.{◌≡◌, ℕ, suc, ◌+◌, ◌≤◌, ◌<◌, List, [], ◌∷◌, length, map, drop, take, Option, None, Some, Result, Ok, Err, refl, sym, ◌∙◌, ap, subst, arith, Vec}
 use Rattle.std.specs.declared.alloc.Global.{Global}
 use Rattle.std.proofs.lemmas.List.{drop_all, length-drop, length-map}
-use Rattle.ir_grammar.specs.Reader.{Got, Wrong, all_read}
-use Rattle.ir_grammar.specs.FirstWrong.{ReadsAll}
-use Rattle.ir_grammar.specs.Code.{Stops}
-use Rattle.ir_grammar.specs.declared.Stop.{Stop}
-use Rattle.ir_grammar.specs.declared.Stop.TheVariants.{WrongSymbol, OutOfMemory}
-use Rattle.ir_grammar.proofs.Reading.{reads_all}
+use Rattle.grammar.specs.Reader.{Got, Wrong, all_read}
+use Rattle.grammar.specs.FirstWrong.{ReadsAll}
+use Rattle.grammar.specs.Code.{Stops}
+use Rattle.grammar.specs.declared.Stop.{Stop}
+use Rattle.grammar.specs.declared.Stop.TheVariants.{WrongSymbol, OutOfMemory}
+use Rattle.grammar.proofs.Reading.{reads_all}
 use Rattle.ir_lex.specs.Symbols.{Symbol, symbols_of}
 use Rattle.ir_lex.specs.declared.token.Token.{Token}
 use Rattle.ir_tree.specs.Shape.{BlockShape, ModuleShape}
 use Rattle.ir_tree.specs.ShapeOf.{inst_shape, block_shape, function_shape}
 use Rattle.ir_tree.specs.declared.module.Block.{Block}
 use Rattle.ir_tree.specs.declared.module.Function.{Function}
-use Rattle.const_grammar.specs.Depth.{IsTooDeep}
-use Rattle.const_grammar.specs.Counting.{deep_len}
-use Rattle.const_grammar.proofs.Depths.{deep_found, deep_counted}
+use Rattle.ir_grammar_consts.specs.Depth.{IsTooDeep}
+use Rattle.ir_grammar_consts.specs.Counting.{deep_len}
+use Rattle.ir_grammar_consts.proofs.Depths.{deep_found, deep_counted}
 use Rattle.ir_const.specs.Places.{cut_of}
 use Rattle.ir_const.proofs.Cuts.{symbols_count}
-use Rattle.module_grammar.specs.Items.{ItemShape, type_item, global_item, declare_item, function_item}
-use Rattle.module_grammar.specs.Modules.{with_item, module_of, whole_module, run_module}
-use Rattle.module_grammar.proofs.ItemLaw.{good_module}
-use Rattle.block_reader.specs.Spots.{InPieces, IsBlockAt}
+use Rattle.ir_grammar_modules.specs.Items.{ItemShape, type_item, global_item, declare_item, function_item}
+use Rattle.ir_grammar_modules.specs.Modules.{with_item, module_of, whole_module, run_module}
+use Rattle.ir_grammar_modules.proofs.ItemLaw.{good_module}
+use Rattle.ir_read_modules.specs.Spots.{InPieces, IsBlockAt}
 use Rattle.ir_parse.specs.Answers.{AreShallow, error_of, ReadsWhole, Parses}
 use Rattle.ir_parse.specs.declared.error.ParseError.{ParseError}
 use Rattle.ir_parse.specs.declared.error.ParseError.TheVariants as error

@@ -1,16 +1,16 @@
 -- What the reader of modules answers.
 use Rattle.std.specs.Prelude.{◌≡◌, ℕ, ◌+◌, ◌<◌, ◌≤◌, List, ◌++◌, length, drop, take, Result, Ok, Err}
-use Rattle.ir_grammar.specs.Reader.{Wrong}
-use Rattle.ir_grammar.specs.FirstWrong.{ReadsAll}
-use Rattle.ir_grammar.specs.declared.Stop.{Stop}
-use Rattle.ir_grammar.specs.declared.Stop.TheVariants as stop
+use Rattle.grammar.specs.Reader.{Wrong}
+use Rattle.grammar.specs.FirstWrong.{ReadsAll}
+use Rattle.grammar.specs.declared.Stop.{Stop}
+use Rattle.grammar.specs.declared.Stop.TheVariants as stop
 use Rattle.ir_tree.specs.ShapeOf.{module_shape}
 use Rattle.ir_tree.specs.declared.parsed.Parsed.{Parsed}
 use Rattle.ir_lex.specs.Symbols.{Symbol, symbols_of}
 use Rattle.ir_lex.specs.declared.token.Token.{Token}
-use Rattle.const_grammar.specs.Depth.{IsTooDeep}
+use Rattle.ir_grammar_consts.specs.Depth.{IsTooDeep}
 use Rattle.ir_const.specs.Places.{place_of}
-use Rattle.module_grammar.specs.Modules.{whole_module}
+use Rattle.ir_grammar_modules.specs.Modules.{whole_module}
 use Rattle.ir_parse.specs.declared.error.ParseError.{ParseError}
 use Rattle.ir_parse.specs.declared.error.ParseError.TheVariants.{Deep, Syntax, OutOfMemory}
 

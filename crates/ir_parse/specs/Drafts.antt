@@ -4,7 +4,7 @@ use Rattle.std.specs.List.{list_all}
 use Rattle.ir_tree.specs.Shape.{ModuleShape}
 use Rattle.ir_tree.specs.ShapeOf.{named_ty_shape, global_shape, declare_shape, function_shape}
 use Rattle.ir_tree.specs.Known.{named_ty_known, global_known, declare_known, function_known}
-use Rattle.module_grammar.specs.Items.{ItemShape, type_item, global_item, declare_item, function_item}
+use Rattle.ir_grammar_modules.specs.Items.{ItemShape, type_item, global_item, declare_item, function_item}
 use Rattle.ir_parse.specs.declared.items.Item.{Item}
 use Rattle.ir_parse.specs.declared.items.Item.TheVariants.{Named, Variable, Declared, Defined}
 use Rattle.ir_parse.specs.declared.draft.Draft.{Draft}

@@ -4,7 +4,7 @@ use Rattle.std.specs.List.{list_all}
 use Rattle.ir_tree.specs.Shape.{BlockShape, FunctionShape}
 use Rattle.ir_tree.specs.ShapeOf.{block_shape, function_shape}
 use Rattle.ir_tree.specs.Known.{block_known, function_known}
-use Rattle.module_grammar.specs.Items.{ItemShape, function_item}
+use Rattle.ir_grammar_modules.specs.Items.{ItemShape, function_item}
 use Rattle.ir_parse.specs.declared.functions.Blocks.{Blocks}
 use Rattle.ir_parse.specs.declared.functions.SpottedFunction.{SpottedFunction}
 

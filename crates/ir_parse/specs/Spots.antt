@@ -1,15 +1,15 @@
 -- Where the items of a module and the lines of its functions begin: the tokens are cut into pieces, one for each item, and an item's spot is the offset
 -- of the first token of its piece.
 use Rattle.std.specs.Prelude.{◌≡◌, ℕ, List, [], ◌∷◌, ◌++◌, map}
-use Rattle.ir_grammar.specs.Language.{mark, one, skip, up_to}
+use Rattle.grammar.specs.Language.{mark, one, skip, up_to}
 use Rattle.ir_tree.specs.Shape.{BlockShape, FunctionShape, ModuleShape}
 use Rattle.ir_tree.specs.declared.parsed.Spots.{Spots}
 use Rattle.ir_lex.specs.Symbols.{symbols_of}
 use Rattle.ir_lex.specs.declared.token.Token.{Token}
-use Rattle.ir_symbols.specs.Marks.{punct}
-use Rattle.block_reader.specs.Spots.{start_of, InPieces, IsBlockAt}
-use Rattle.module_grammar.specs.Items.{ItemShape, type_item, global_item, declare_item, function_item, define_word, Signature, signature, item}
-use Rattle.module_grammar.specs.Modules.{module_of}
+use Rattle.ir_cursor.specs.Marks.{punct}
+use Rattle.ir_read_modules.specs.Spots.{start_of, InPieces, IsBlockAt}
+use Rattle.ir_grammar_modules.specs.Items.{ItemShape, type_item, global_item, declare_item, function_item, define_word, Signature, signature, item}
+use Rattle.ir_grammar_modules.specs.Modules.{module_of}
 
 -- where an item begins, and of a function also where the lines of each block begin
 pub record Place : Type 0 where

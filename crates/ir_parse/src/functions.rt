@@ -2,26 +2,27 @@
 
 ghost use Rattle.std.specs.Prelude.{◌≡◌, ◌+◌, ◌^◌, ◌<◌, ◌≤◌, length, drop, map, count_by, slice_range, option_map, true, IfOk};
 ghost use Rattle.std.specs.List.{list_all};
-ghost use Rattle.ir_grammar.specs.Reader.{run_one, run_map, run_until};
-ghost use Rattle.ir_grammar.specs.Code.{Gives, Steps};
+ghost use Rattle.grammar.specs.Reader.{run_one, run_map, run_until};
+ghost use Rattle.grammar.specs.Code.{Gives, Steps};
 ghost use Rattle.ir_lex.specs.Symbols.{symbols_of};
-ghost use Rattle.ir_symbols.specs.Marks.{punct};
+ghost use Rattle.ir_cursor.specs.Marks.{punct};
 ghost use Rattle.ir_tree.specs.NameTable.{Grows, text_of};
 ghost use Rattle.ir_tree.specs.ShapeOf.{name_shape, param_shape};
 ghost use Rattle.ir_tree.specs.Known.{name_known, result_known, param_known};
-ghost use Rattle.module_grammar.specs.Blocks.{run_block};
-ghost use Rattle.module_grammar.specs.Items.{define_word, is_numbered, first_name, blocks_of, run_blocks, run_function};
+ghost use Rattle.ir_grammar_modules.specs.Blocks.{run_block};
+ghost use Rattle.ir_grammar_modules.specs.Items.{define_word, is_numbered, first_name, blocks_of, run_blocks, run_function};
 ghost use Rattle.ir_parse.specs.Shapes.{blocks_shape, blocks_known, block_spots, spotted_function_shape, spotted_function_known, function_of_shape};
 ghost use Rattle.ir_parse.specs.Spots.{IsBodyAt, IsFunctionAt};
 
-use block_reader::{EntryBlock, LabelledBlock, Lines, block_at, entry_at};
-use ir_grammar::Stop;
+use grammar::Stop;
+use ir_cursor::{Meaning, after_mark, mark_at, meaning_at};
 use ir_lex::{Keyword, Token};
-use ir_symbols::{Meaning, after_mark, mark_at, meaning_at};
+use ir_read_modules::{
+    EntryBlock, LabelledBlock, Lines, Signature, block_at, entry_at, signature_at,
+};
 use ir_tree::module::{Block, Function, Param};
 use ir_tree::names::{NameId, Names};
 use ir_words::digits::is_number;
-use item_reader::{Signature, signature_at};
 use std::alloc::{AllocError, Global};
 
 /// The blocks of a function, and the byte offset of the first token of each of their lines.

@@ -1,22 +1,22 @@
 //! Items, each from its first token on.
 
 ghost use Rattle.std.specs.Prelude.{◌≡◌, ◌+◌, ◌^◌, ◌<◌, ◌≤◌, length, drop, slice_range, true, IfOk};
-ghost use Rattle.ir_grammar.specs.Reader.{opens};
-ghost use Rattle.ir_grammar.specs.Code.{Gives};
+ghost use Rattle.grammar.specs.Reader.{opens};
+ghost use Rattle.grammar.specs.Code.{Gives};
 ghost use Rattle.ir_lex.specs.Symbols.{symbols_of};
 ghost use Rattle.ir_tree.specs.NameTable.{Grows};
-ghost use Rattle.module_grammar.specs.Items.{run_item};
-ghost use Rattle.module_grammar.specs.Modules.{begins_item};
+ghost use Rattle.ir_grammar_modules.specs.Items.{run_item};
+ghost use Rattle.ir_grammar_modules.specs.Modules.{begins_item};
 ghost use Rattle.ir_parse.specs.Drafts.{item_shape, item_known, item_lines};
 ghost use Rattle.ir_parse.specs.Spots.{HasLinesAt};
 
 use crate::functions::{SpottedFunction, function_line_at};
-use ir_grammar::Stop;
+use grammar::Stop;
+use ir_cursor::{Meaning, meaning_at};
 use ir_lex::{Keyword, Token};
-use ir_symbols::{Meaning, meaning_at};
+use ir_read_modules::{declare_line_at, global_line_at, type_line_at};
 use ir_tree::module::{Declare, GlobalItem, NamedTy};
 use ir_tree::names::Names;
-use item_reader::{declare_line_at, global_line_at, type_line_at};
 use std::alloc::Global;
 
 /// An item of a module.

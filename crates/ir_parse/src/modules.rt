@@ -1,11 +1,11 @@
 //! Modules, item by item.
 
 ghost use Rattle.std.specs.Prelude.{◌≡◌, ◌^◌, ◌<◌, [], length, slice_range, true, IfOk};
-ghost use Rattle.ir_grammar.specs.Code.{Gives};
+ghost use Rattle.grammar.specs.Code.{Gives};
 ghost use Rattle.ir_lex.specs.Symbols.{symbols_of};
 ghost use Rattle.ir_tree.specs.ShapeOf.{module_shape};
 ghost use Rattle.ir_tree.specs.Known.{module_known};
-ghost use Rattle.module_grammar.specs.Modules.{run_module};
+ghost use Rattle.ir_grammar_modules.specs.Modules.{run_module};
 ghost use Rattle.ir_parse.specs.Answers.{error_of, ReadsWhole};
 ghost use Rattle.ir_parse.specs.Drafts.{draft_shape, draft_known};
 ghost use Rattle.ir_parse.specs.Spots.{AreSpots};
@@ -13,10 +13,10 @@ ghost use Rattle.ir_parse.specs.Spots.{AreSpots};
 use crate::draft::Draft;
 use crate::error::ParseError;
 use crate::items::{begins_item, item_at};
-use block_reader::start_at;
+use grammar::Stop;
 use ir_const::place_of;
-use ir_grammar::Stop;
 use ir_lex::Token;
+use ir_read_modules::start_at;
 use ir_tree::module::Module;
 use ir_tree::names::Names;
 use ir_tree::parsed::Parsed;

@@ -5,9 +5,9 @@ use Rattle.ir_words.specs.declared.words.Keyword.TheVariants.{Integer, Void, Phi
 use Rattle.ir_lex.specs.Symbols.{Symbol, LocalSymbol, MarkSymbol}
 use Rattle.ir_tree.specs.Shape.{TyShape, ValShape, TyValShape, PhiInShape, CaseShape, BodyShape, phi, binary, icmp, select, convert, freeze, alloca, load, store, get_element, call, jump, branch, switch, return_void, return_value, unreachable}
 use Rattle.ir_tree.specs.declared.module.Flags.{Flags}
-use Rattle.const_grammar.specs.Spelling.{flag_spelling}
-use Rattle.inst_grammar.specs.Spelling.{bin_word, pred_word, conv_word, flag_word, flags_spelling, val_spelling, ty_val_spelling, two_spelling, target_spelling, phi_input_spelling, case_spelling, count_spelling, count_written, body_spelling, in_a_row, with_commas}
-use Rattle.const_printer.specs.Texts.{in_row}
+use Rattle.ir_grammar_consts.specs.Spelling.{flag_spelling}
+use Rattle.ir_grammar_insts.specs.Spelling.{bin_word, pred_word, conv_word, flag_word, flags_spelling, val_spelling, ty_val_spelling, two_spelling, target_spelling, phi_input_spelling, case_spelling, count_spelling, count_written, body_spelling, in_a_row, with_commas}
+use Rattle.ir_print_consts.specs.Texts.{in_row}
 use Rattle.ir_print.specs.Texts.{word_text, local_text, number_text, value_text, typed_text, two_text, target_text, flag_part, flags_part, input_text, case_text, callee_gap, is_global_name, in_spaces, count_part, body_text}
 use Rattle.ir_print.proofs.Pieces.{Piece, Item, both, item_then, alone, empty_piece, comma_piece, more_piece, bracket_item, parens_item, commas_piece, listed_text, listed_piece, spaces_text}
 use Rattle.ir_print.proofs.OperandItems.{word_item, local_item, number_item, type_item, value_item, value_gap}

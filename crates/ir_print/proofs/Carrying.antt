@@ -1,12 +1,12 @@
 -- What readable symbols spell by a rule holds what its parts hold, and rows of printable parts are printable.
 use Rattle.std.proofs.Common.{◌≡◌, ℕ, true, List, [], ◌∷◌, ◌++◌, Option, Some, None, refl, sym, subst, inl, inr}
-use Rattle.ir_grammar.specs.Language.{Lang, one, skip, seq, map_to, maybe, many, or_else, cons, up_to, items, until}
+use Rattle.grammar.specs.Language.{Lang, one, skip, seq, map_to, maybe, many, or_else, cons, up_to, items, until}
 use Rattle.ir_lex.specs.Bytes.{is_punct}
 use Rattle.ir_lex.specs.Symbols.{Symbol, MarkSymbol}
-use Rattle.ir_spell.specs.Printed.{IsReadable, ArePrintable}
-use Rattle.const_grammar.proofs.Values.{Every}
-use Rattle.inst_grammar.specs.Spelling.{in_a_row, more, with_commas}
-use Rattle.const_printer.proofs.PrintableTypes.{Carries, front_of, back_of, head_of, printable_both, carries_many, carries_skip}
+use Rattle.ir_print_symbols.specs.Printed.{IsReadable, ArePrintable}
+use Rattle.ir_grammar_consts.proofs.Values.{Every}
+use Rattle.ir_grammar_insts.specs.Spelling.{in_a_row, more, with_commas}
+use Rattle.ir_print_consts.proofs.PrintableTypes.{Carries, front_of, back_of, head_of, printable_both, carries_many, carries_skip}
 
 -- nothing is said of the value
 abbrev pub Anything : {V : Type 0} → V → Type 0

@@ -7,17 +7,17 @@ use Rattle.ir_lex.specs.Bytes.{is_blank}
 use Rattle.ir_lex.specs.Symbols.{Symbol, KeywordSymbol, LabelSymbol, MarkSymbol, symbols_of}
 use Rattle.ir_lex.specs.Tokens.{AreTokens}
 use Rattle.ir_lex.specs.declared.token.Token.{Token}
-use Rattle.ir_grammar.specs.Reader.{Got}
-use Rattle.ir_grammar.proofs.Reading.{reads_back}
-use Rattle.ir_spell.specs.Printed.{Line, rows_of, AreBlanks, AreIndented, ArePrintable}
-use Rattle.ir_spell.specs.Spells.{Spells}
-use Rattle.ir_spell.proofs.Lines.{lines_spell}
-use Rattle.ir_spell.proofs.Walks.{spells_alone}
-use Rattle.inst_grammar.specs.Spelling.{in_a_row}
-use Rattle.module_grammar.specs.Modules.{run_module, whole_module}
-use Rattle.module_grammar.specs.Spelling.{block_spelling, signature_spelling, type_spelling, global_spelling, declare_spelling, function_spelling, module_spelling, FitsModule}
-use Rattle.module_grammar.proofs.ItemLaw.{good_module}
-use Rattle.module_grammar.proofs.ModuleSpelled.{spelled_module}
+use Rattle.grammar.specs.Reader.{Got}
+use Rattle.grammar.proofs.Reading.{reads_back}
+use Rattle.ir_print_symbols.specs.Printed.{Line, rows_of, AreBlanks, AreIndented, ArePrintable}
+use Rattle.ir_print_symbols.specs.Spells.{Spells}
+use Rattle.ir_print_symbols.proofs.Lines.{lines_spell}
+use Rattle.ir_print_symbols.proofs.Walks.{spells_alone}
+use Rattle.ir_grammar_insts.specs.Spelling.{in_a_row}
+use Rattle.ir_grammar_modules.specs.Modules.{run_module, whole_module}
+use Rattle.ir_grammar_modules.specs.Spelling.{block_spelling, signature_spelling, type_spelling, global_spelling, declare_spelling, function_spelling, module_spelling, FitsModule}
+use Rattle.ir_grammar_modules.proofs.ItemLaw.{good_module}
+use Rattle.ir_grammar_modules.proofs.ModuleSpelled.{spelled_module}
 use Rattle.std.proofs.lemmas.List.{append-nil}
 use Rattle.std.proofs.Common.{arith}
 use Rattle.ir_print.specs.Printed.{outer, inner, block_lines, function_lines, module_lines, module_text}

@@ -3,11 +3,11 @@ use Rattle.std.proofs.Common.{◌≡◌, ℕ, List, [], ◌∷◌, ◌++◌, map
 use Rattle.std.specs.List.{flat_map}
 use Rattle.ir_words.specs.declared.words.Keyword.TheVariants.{«Type», Declare, Define}
 use Rattle.ir_lex.specs.Symbols.{Symbol, KeywordSymbol, LocalSymbol, GlobalSymbol, MarkSymbol}
-use Rattle.ir_spell.specs.Printed.{Line, joined, text_of_lines}
+use Rattle.ir_print_symbols.specs.Printed.{Line, joined, text_of_lines}
 use Rattle.ir_tree.specs.Shape.{TyShape, InstShape, BlockShape, NamedTyShape, GlobalShape, DeclareShape, ParamShape, FunctionShape, ModuleShape}
-use Rattle.const_grammar.specs.Spelling.{ty_spelling}
-use Rattle.inst_grammar.specs.Spelling.{with_commas, body_spelling}
-use Rattle.module_grammar.specs.Spelling.{result_spelling, line_spelling, name_spelling, parameter_spelling, signature_spelling, without_name, constancy_word, type_spelling, global_spelling, declare_spelling}
+use Rattle.ir_grammar_consts.specs.Spelling.{ty_spelling}
+use Rattle.ir_grammar_insts.specs.Spelling.{with_commas, body_spelling}
+use Rattle.ir_grammar_modules.specs.Spelling.{result_spelling, line_spelling, name_spelling, parameter_spelling, signature_spelling, without_name, constancy_word, type_spelling, global_spelling, declare_spelling}
 use Rattle.ir_print.specs.Printed.{outer, inner, block_lines, function_lines, module_text}
 use Rattle.ir_print.specs.Texts.{word_text, local_text, global_text, label_text, type_text, constant_text, result_text, body_text, line_text, block_text, name_part, parameter_text, signature_text, type_line, global_line, declare_line, function_text, items_text}
 use Rattle.ir_print.proofs.Pieces.{Piece, Item, both, item_then, alone, empty_piece, equals_piece, parens_item, brace_text, listed_text}

@@ -3,11 +3,11 @@ use Rattle.std.proofs.Common.{◌≡◌, ℕ, ℤ, Bool, true, false, List, [], 
 use Rattle.ir_words.specs.declared.words.Keyword.{Keyword}
 use Rattle.ir_words.specs.declared.words.Keyword.TheVariants.{To, Integer, Ptr, Void, X, True, False, Null, Undef, Poison, ZeroInitializer, GetElementPtr}
 use Rattle.ir_lex.specs.Symbols.{Symbol, KeywordSymbol, LocalSymbol, GlobalSymbol, NumberSymbol, TextSymbol, MarkSymbol}
-use Rattle.ir_spell.specs.Printed.{is_opening, is_closing, is_mark, between, joined, last_of}
+use Rattle.ir_print_symbols.specs.Printed.{is_opening, is_closing, is_mark, between, joined, last_of}
 use Rattle.ir_tree.specs.Shape.{TyShape, integer, pointer, void, array, structure, named, ConstShape, number, boolean, null, undef, poison, zero_value, text, elements, fields, global, address, ValShape, local, fixed}
-use Rattle.const_grammar.specs.Spelling.{in_braces, flag_spelling, ty_spelling, ty_list_spelling, ty_more_spelling, const_spelling, typed_spelling, typed_list_spelling, typed_more_spelling}
-use Rattle.inst_grammar.specs.Spelling.{val_spelling}
-use Rattle.const_printer.proofs.Rows.{Starts, last_of_end}
+use Rattle.ir_grammar_consts.specs.Spelling.{in_braces, flag_spelling, ty_spelling, ty_list_spelling, ty_more_spelling, const_spelling, typed_spelling, typed_list_spelling, typed_more_spelling}
+use Rattle.ir_grammar_insts.specs.Spelling.{val_spelling}
+use Rattle.ir_print_consts.proofs.Rows.{Starts, last_of_end}
 use Rattle.ir_print.specs.Texts.{word_text, local_text, global_text, number_text, type_text, constant_text, value_text, is_name, is_global_name, callee_gap}
 use Rattle.ir_print.proofs.Pieces.{Follows, Whole, Item, last_of-append, one_item, item_from}
 

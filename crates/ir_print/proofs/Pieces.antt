@@ -3,11 +3,11 @@ use Rattle.std.proofs.Common.{◌≡◌, ℕ, Bool, true, false, List, [], ◌�
 use Rattle.std.specs.Prelude.{◌||◌, ◌&&◌}
 use Rattle.ir_words.specs.declared.words.Keyword.TheVariants.{To}
 use Rattle.ir_lex.specs.Symbols.{Symbol, KeywordSymbol, MarkSymbol}
-use Rattle.ir_spell.specs.Printed.{text_of_symbol, is_opening, is_closing, is_global, is_mark, touches, between, joined, joined_behind, last_of}
-use Rattle.ir_spell.proofs.Joining.{joined_behind-append}
-use Rattle.inst_grammar.specs.Spelling.{in_a_row, with_commas, more}
-use Rattle.const_printer.specs.Texts.{in_row}
-use Rattle.const_printer.proofs.Rows.{Starts, opening_text, closed_text, spaced_text, last_of_end}
+use Rattle.ir_print_symbols.specs.Printed.{text_of_symbol, is_opening, is_closing, is_global, is_mark, touches, between, joined, joined_behind, last_of}
+use Rattle.ir_print_symbols.proofs.Joining.{joined_behind-append}
+use Rattle.ir_grammar_insts.specs.Spelling.{in_a_row, with_commas, more}
+use Rattle.ir_print_consts.specs.Texts.{in_row}
+use Rattle.ir_print_consts.proofs.Rows.{Starts, opening_text, closed_text, spaced_text, last_of_end}
 use Rattle.ir_print.specs.Texts.{in_spaces, row_blank}
 
 -- a row behind a plain symbol

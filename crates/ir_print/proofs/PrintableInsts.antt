@@ -1,6 +1,6 @@
 -- The spelling of a phi, an instruction or a terminator that readable symbols spell is printable.
 use Rattle.std.proofs.Common.{◌≡◌, ℕ, ℤ, pos, negsuc, ◌==◌, Bool, true, false, if◌then◌else◌, List, [], ◌∷◌, ◌++◌, Option, Some, None, sym, subst, lit<}
-use Rattle.ir_grammar.specs.Language.{empty, one, skip, seq, map_to, maybe, many, items, until, listed}
+use Rattle.grammar.specs.Language.{empty, one, skip, seq, map_to, maybe, many, items, until, listed}
 use Rattle.ir_tree.specs.Shape.{TyShape, ValShape, local, fixed, global, TyValShape, PhiInShape, CaseShape, BodyShape, phi, freeze, load, store, jump, return_void, return_value}
 use Rattle.ir_tree.specs.declared.module.Bin.{Bin}
 use Rattle.ir_tree.specs.declared.module.Bin.TheVariants as bins
@@ -12,21 +12,21 @@ use Rattle.ir_tree.specs.declared.module.Conv.TheVariants as convs
 use Rattle.ir_words.specs.declared.words.Keyword.{Keyword}
 use Rattle.ir_words.specs.declared.words.Keyword.TheVariants.{Nuw, Nsw, Exact, To}
 use Rattle.ir_lex.specs.Symbols.{Symbol, KeywordSymbol, LocalSymbol, GlobalSymbol, NumberSymbol, MarkSymbol, number_in}
-use Rattle.ir_symbols.specs.Marks.{punct}
-use Rattle.ir_spell.specs.Printed.{AreBytes, HasWord, IsWithin128, IsReadable, ArePrintable}
-use Rattle.const_grammar.specs.Types.{ty}
-use Rattle.const_grammar.specs.Constants.{const, address_flags}
-use Rattle.const_grammar.specs.Spelling.{ty_spelling, flag_spelling, const_spelling}
-use Rattle.const_grammar.proofs.Values.{Every}
-use Rattle.inst_grammar.specs.Operands.{local_name, global_name, predicate, into, val, ty_val_of, ty_val, more_ty_val, TwoVals, two_vals, label, target}
-use Rattle.inst_grammar.specs.Arithmetic.{wrap_flags, exact_flag, no_flags, binary_of, icmp_of, select_of, Converted, converted, convert_of}
-use Rattle.inst_grammar.specs.Memory.{count_of, counted, alloca_of, Element, element_of, Called, call_of}
-use Rattle.inst_grammar.specs.Instructions.{phi_word, phi_input_of, phi_input, InstHead, WrappingWord, ExactWord, PlainWord, IcmpWord, SelectWord, ExtendWord, TruncWord, FreezeWord, AllocaWord, LoadWord, StoreWord, ElementWord, CallWord, inst_rest, inst}
-use Rattle.inst_grammar.specs.Instructions as grammar
-use Rattle.inst_grammar.specs.Terminators.{void_word, more_target, branch_of, two_ways, case_of, switch_case, switch_of, TermHead, BrWord, SwitchWord, RetWord, UnreachableWord, term_rest, term}
-use Rattle.inst_grammar.specs.Spelling.{bin_word, pred_word, conv_word, flag_word, flags_spelling, val_spelling, ty_val_spelling, more, two_spelling, target_spelling, phi_input_spelling, case_spelling, count_spelling, count_written, body_spelling, in_a_row, with_commas}
-use Rattle.const_printer.proofs.PrintableTypes.{Carries, tail_of, printable_both, carries_many, carries_skip, carries_listed, IsTyPrintable, ty_printable}
-use Rattle.const_printer.proofs.PrintableConsts.{IsConstPrintable, const_printable, flag_printable}
+use Rattle.ir_cursor.specs.Marks.{punct}
+use Rattle.ir_print_symbols.specs.Printed.{AreBytes, HasWord, IsWithin128, IsReadable, ArePrintable}
+use Rattle.ir_grammar_consts.specs.Types.{ty}
+use Rattle.ir_grammar_consts.specs.Constants.{const, address_flags}
+use Rattle.ir_grammar_consts.specs.Spelling.{ty_spelling, flag_spelling, const_spelling}
+use Rattle.ir_grammar_consts.proofs.Values.{Every}
+use Rattle.ir_grammar_insts.specs.Operands.{local_name, global_name, predicate, into, val, ty_val_of, ty_val, more_ty_val, TwoVals, two_vals, label, target}
+use Rattle.ir_grammar_insts.specs.Arithmetic.{wrap_flags, exact_flag, no_flags, binary_of, icmp_of, select_of, Converted, converted, convert_of}
+use Rattle.ir_grammar_insts.specs.Memory.{count_of, counted, alloca_of, Element, element_of, Called, call_of}
+use Rattle.ir_grammar_insts.specs.Instructions.{phi_word, phi_input_of, phi_input, InstHead, WrappingWord, ExactWord, PlainWord, IcmpWord, SelectWord, ExtendWord, TruncWord, FreezeWord, AllocaWord, LoadWord, StoreWord, ElementWord, CallWord, inst_rest, inst}
+use Rattle.ir_grammar_insts.specs.Instructions as grammar
+use Rattle.ir_grammar_insts.specs.Terminators.{void_word, more_target, branch_of, two_ways, case_of, switch_case, switch_of, TermHead, BrWord, SwitchWord, RetWord, UnreachableWord, term_rest, term}
+use Rattle.ir_grammar_insts.specs.Spelling.{bin_word, pred_word, conv_word, flag_word, flags_spelling, val_spelling, ty_val_spelling, more, two_spelling, target_spelling, phi_input_spelling, case_spelling, count_spelling, count_written, body_spelling, in_a_row, with_commas}
+use Rattle.ir_print_consts.proofs.PrintableTypes.{Carries, tail_of, printable_both, carries_many, carries_skip, carries_listed, IsTyPrintable, ty_printable}
+use Rattle.ir_print_consts.proofs.PrintableConsts.{IsConstPrintable, const_printable, flag_printable}
 use Rattle.ir_print.proofs.Carrying.{Anything, Both, Perhaps, carries_any, carries_one, carries_seq, carries_map, carries_maybe, carries_or, carries_up_to, carries_until, carries_items, comma, opening_bracket, closing_bracket, opening_parenthesis, closing_parenthesis, Printable, row_printable, commas_printable, listed_printable, closed_printable}
 
 -- words, names and numbers

@@ -3,25 +3,25 @@ use Rattle.std.proofs.Common.{◌≡◌, ℕ, zero, suc, ◌==◌, ◌/◌, ◌%
 use Rattle.std.specs.Prelude.{count_by}
 use Rattle.std.specs.Fmt.{decimal, digits, digits_onto, digit_glyph}
 use Rattle.std.proofs.lemmas.Bool.Decides.{nat_tests}
-use Rattle.ir_grammar.specs.Language.{Lang, one, skip, seq, map_to, maybe, many, or_else, until, listed}
+use Rattle.grammar.specs.Language.{Lang, one, skip, seq, map_to, maybe, many, or_else, until, listed}
 use Rattle.ir_tree.specs.Shape.{TyShape, ConstShape, BodyShape, InstShape, BlockShape, ParamShape, FunctionShape, GlobalShape, DeclareShape, NamedTyShape, ModuleShape}
 use Rattle.ir_lex.specs.Symbols.{Symbol, GlobalSymbol, LabelSymbol, MarkSymbol}
-use Rattle.ir_symbols.specs.Marks.{punct}
-use Rattle.ir_spell.specs.Printed.{AreBytes, HasWord, IsReadable, AreReadable, ArePrintable}
-use Rattle.const_grammar.specs.Types.{ty}
-use Rattle.const_grammar.specs.Constants.{const}
-use Rattle.const_grammar.specs.Spelling.{ty_spelling, const_spelling}
-use Rattle.const_grammar.proofs.Values.{Every}
-use Rattle.inst_grammar.specs.Operands.{local_name, global_name}
-use Rattle.inst_grammar.specs.Instructions.{phi, inst}
-use Rattle.inst_grammar.specs.Terminators.{term}
-use Rattle.inst_grammar.specs.Spelling.{body_spelling, in_a_row, with_commas}
-use Rattle.module_grammar.specs.Blocks.{label_name, result, line_of, phi_line, inst_line, last_of, last_line, joined, in_front, after_phis, lines, block_of, block, FirstBlock, first_block}
-use Rattle.module_grammar.specs.Items.{type_word, constancy, declare_word, define_word, ItemShape, type_item, global_item, declare_item, function_item, parameter_of, parameter, parameters, Signature, signature, is_numbered, first_name, blocks, blocks_of, type_of, type_line, global_of, global_line, declare_of, declare_line, function_of, function, item}
-use Rattle.module_grammar.specs.Modules.{with_item, module_of, whole_module}
-use Rattle.module_grammar.specs.Spelling.{result_spelling, line_spelling, block_spelling, name_spelling, parameter_spelling, signature_spelling, without_name, constancy_word, type_spelling, global_spelling, declare_spelling, function_spelling, module_spelling}
-use Rattle.const_printer.proofs.PrintableTypes.{Carries, printable_both, carries_many, carries_skip, carries_listed, IsTyPrintable, ty_printable}
-use Rattle.const_printer.proofs.PrintableConsts.{IsConstPrintable, const_printable}
+use Rattle.ir_cursor.specs.Marks.{punct}
+use Rattle.ir_print_symbols.specs.Printed.{AreBytes, HasWord, IsReadable, AreReadable, ArePrintable}
+use Rattle.ir_grammar_consts.specs.Types.{ty}
+use Rattle.ir_grammar_consts.specs.Constants.{const}
+use Rattle.ir_grammar_consts.specs.Spelling.{ty_spelling, const_spelling}
+use Rattle.ir_grammar_consts.proofs.Values.{Every}
+use Rattle.ir_grammar_insts.specs.Operands.{local_name, global_name}
+use Rattle.ir_grammar_insts.specs.Instructions.{phi, inst}
+use Rattle.ir_grammar_insts.specs.Terminators.{term}
+use Rattle.ir_grammar_insts.specs.Spelling.{body_spelling, in_a_row, with_commas}
+use Rattle.ir_grammar_modules.specs.Blocks.{label_name, result, line_of, phi_line, inst_line, last_of, last_line, joined, in_front, after_phis, lines, block_of, block, FirstBlock, first_block}
+use Rattle.ir_grammar_modules.specs.Items.{type_word, constancy, declare_word, define_word, ItemShape, type_item, global_item, declare_item, function_item, parameter_of, parameter, parameters, Signature, signature, is_numbered, first_name, blocks, blocks_of, type_of, type_line, global_of, global_line, declare_of, declare_line, function_of, function, item}
+use Rattle.ir_grammar_modules.specs.Modules.{with_item, module_of, whole_module}
+use Rattle.ir_grammar_modules.specs.Spelling.{result_spelling, line_spelling, block_spelling, name_spelling, parameter_spelling, signature_spelling, without_name, constancy_word, type_spelling, global_spelling, declare_spelling, function_spelling, module_spelling}
+use Rattle.ir_print_consts.proofs.PrintableTypes.{Carries, printable_both, carries_many, carries_skip, carries_listed, IsTyPrintable, ty_printable}
+use Rattle.ir_print_consts.proofs.PrintableConsts.{IsConstPrintable, const_printable}
 use Rattle.ir_print.proofs.Carrying.{Anything, Both, Perhaps, carries_any, carries_one, carries_seq, carries_map, carries_maybe, carries_or, carries_up_to, carries_until, every_both, every_weaker, equals, opening_parenthesis, closing_parenthesis, opening_brace, closing_brace, Printable, row_printable, listed_printable, closed_printable}
 use Rattle.ir_print.proofs.PrintableInsts.{local_carries, global_carries, IsBodyPrintable, phi_printable, inst_printable, term_printable}
 

@@ -4,8 +4,8 @@ use Rattle.std.specs.List.{flat_map}
 use Rattle.ir_tree.specs.Shape.{InstShape, BlockShape, FunctionShape, ModuleShape}
 use Rattle.ir_words.specs.declared.words.Keyword.TheVariants.{Define}
 use Rattle.ir_lex.specs.Symbols.{Symbol, KeywordSymbol, LabelSymbol, MarkSymbol}
-use Rattle.ir_spell.specs.Printed.{Line, text_of_lines}
-use Rattle.module_grammar.specs.Spelling.{line_spelling, signature_spelling, type_spelling, global_spelling, declare_spelling}
+use Rattle.ir_print_symbols.specs.Printed.{Line, text_of_lines}
+use Rattle.ir_grammar_modules.specs.Spelling.{line_spelling, signature_spelling, type_spelling, global_spelling, declare_spelling}
 
 -- a line without an indent
 abbrev pub outer : List Symbol → Line

@@ -6,11 +6,11 @@ use Rattle.ir_tree.specs.declared.module.Flags.{Flags}
 use Rattle.ir_words.specs.declared.words.Keyword.{Keyword}
 use Rattle.ir_words.specs.declared.words.Keyword.TheVariants.{«Type», Declare, Define, Integer, Void, Phi, Nuw, Nsw, Exact, InBounds, Icmp, Select, To, Freeze, Alloca, Load, Store, GetElementPtr, Call, Br, Label, Switch, Ret, Unreachable}
 use Rattle.ir_lex.specs.Symbols.{KeywordSymbol, LocalSymbol, GlobalSymbol, LabelSymbol, NumberSymbol}
-use Rattle.ir_spell.specs.Printed.{joined, text_of_symbol}
-use Rattle.const_grammar.specs.Spelling.{ty_spelling, const_spelling}
-use Rattle.inst_grammar.specs.Spelling.{bin_word, pred_word, conv_word}
-use Rattle.module_grammar.specs.Spelling.{constancy_word}
-use Rattle.const_printer.specs.Texts.{in_row}
+use Rattle.ir_print_symbols.specs.Printed.{joined, text_of_symbol}
+use Rattle.ir_grammar_consts.specs.Spelling.{ty_spelling, const_spelling}
+use Rattle.ir_grammar_insts.specs.Spelling.{bin_word, pred_word, conv_word}
+use Rattle.ir_grammar_modules.specs.Spelling.{constancy_word}
+use Rattle.ir_print_consts.specs.Texts.{in_row}
 
 -- one symbol
 unfoldable pub word_text : Keyword → List ℕ

@@ -3,16 +3,16 @@
 ghost use Rattle.std.specs.Prelude.{◌≡◌, ◌++◌, ◌∷◌, [], List, ℕ, false, map, OnOk};
 ghost use Rattle.ir_tree.specs.Shape.{phi, binary, icmp, select, convert, freeze, alloca, load, store, get_element, call};
 ghost use Rattle.ir_tree.specs.ShapeOf.{ty_shape, const_shape, val_shape, ty_val_shape, phi_in_shape};
-ghost use Rattle.inst_grammar.specs.Spelling.{bin_word, pred_word, conv_word};
-ghost use Rattle.const_printer.specs.Texts.{in_row};
+ghost use Rattle.ir_grammar_insts.specs.Spelling.{bin_word, pred_word, conv_word};
+ghost use Rattle.ir_print_consts.specs.Texts.{in_row};
 ghost use Rattle.ir_print.specs.Texts.{value_text, typed_text, flag_part, flags_part, input_text, row_blank, is_name, is_global_name, callee_gap, count_part, body_text};
 
 use crate::operands::{
     push_constant, push_integer, push_local_name, push_more_typed, push_operands, push_spaced_type,
     push_spaced_typed, push_spaced_value, push_spaced_word, push_two, push_value, push_word,
 };
-use const_printer::push_comma;
 use ir_lex::Keyword;
+use ir_print_consts::push_comma;
 use ir_tree::module::{Bin, Conv, Flags, PhiIn, Pred, TyVal, Val};
 use ir_tree::names::Names;
 use ir_tree::types::{Const, Ty};

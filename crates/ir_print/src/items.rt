@@ -3,16 +3,16 @@
 ghost use Rattle.std.specs.Prelude.{◌≡◌, ◌++◌, ◌∷◌, [], false, map, option_map, OnOk};
 ghost use Rattle.std.specs.List.{flat_map};
 ghost use Rattle.ir_tree.specs.ShapeOf.{module_shape, name_shape, ty_shape, param_shape, named_ty_shape, global_shape, declare_shape, function_shape};
-ghost use Rattle.module_grammar.specs.Spelling.{constancy_word};
-ghost use Rattle.const_printer.specs.Texts.{in_row};
+ghost use Rattle.ir_grammar_modules.specs.Spelling.{constancy_word};
+ghost use Rattle.ir_print_consts.specs.Texts.{in_row};
 ghost use Rattle.ir_print.specs.Texts.{type_text, global_text, name_part, parameter_text, type_line, global_line, declare_line, function_text, items_text};
 
 use crate::blocks::push_blocks;
 use crate::operands::{
     push_constant, push_global_name, push_local_name, push_spaced_type, push_type, push_word,
 };
-use const_printer::{push_comma, push_tys};
 use ir_lex::Keyword;
+use ir_print_consts::{push_comma, push_tys};
 use ir_tree::module::{Declare, Function, GlobalItem, Module, NamedTy, Param};
 use ir_tree::names::{NameId, Names};
 use ir_tree::types::Ty;

@@ -5,16 +5,16 @@
 #![tactic(auto)]
 
 ghost use Rattle.std.specs.Prelude.{◌≡◌, ℕ, List, [], length, IfOk};
-ghost use Rattle.ir_grammar.specs.Reader.{Got};
+ghost use Rattle.grammar.specs.Reader.{Got};
 ghost use Rattle.ir_lex.specs.declared.token.Token.{Token};
 ghost use Rattle.ir_lex.specs.Symbols.{symbols_of};
 ghost use Rattle.ir_lex.specs.Tokens.{AreTokens};
-ghost use Rattle.ir_spell.specs.Printed.{AreBytes, ArePrintable, rows_of};
-ghost use Rattle.ir_spell.specs.Spells.{Spells};
+ghost use Rattle.ir_print_symbols.specs.Printed.{AreBytes, ArePrintable, rows_of};
+ghost use Rattle.ir_print_symbols.specs.Spells.{Spells};
 ghost use Rattle.ir_tree.specs.Shape.{ModuleShape};
 ghost use Rattle.ir_tree.specs.ShapeOf.{module_shape};
-ghost use Rattle.module_grammar.specs.Modules.{run_module, whole_module};
-ghost use Rattle.module_grammar.specs.Spelling.{module_spelling, FitsModule};
+ghost use Rattle.ir_grammar_modules.specs.Modules.{run_module, whole_module};
+ghost use Rattle.ir_grammar_modules.specs.Spelling.{module_spelling, FitsModule};
 ghost use Rattle.ir_print.specs.Printed.{module_lines, module_text};
 
 mod blocks;

@@ -2,12 +2,12 @@
 
 ghost use Rattle.std.specs.Prelude.{◌≡◌, ◌++◌, ◌∷◌, map, OnOk};
 ghost use Rattle.ir_tree.specs.ShapeOf.{name_shape, ty_shape, const_shape, val_shape, ty_val_shape};
-ghost use Rattle.const_printer.specs.Texts.{in_row};
+ghost use Rattle.ir_print_consts.specs.Texts.{in_row};
 ghost use Rattle.ir_print.specs.Texts.{word_text, local_text, global_text, label_text, number_text, type_text, constant_text, value_text, typed_text, two_text, target_text};
 
-use const_printer::{name_of, push_comma, push_const, push_ty};
 use ir_lex::Keyword;
-use ir_spell::{push_global, push_keyword, push_label, push_local, push_number};
+use ir_print_consts::{name_of, push_comma, push_const, push_ty};
+use ir_print_symbols::{push_global, push_keyword, push_label, push_local, push_number};
 use ir_tree::module::{TyVal, Val};
 use ir_tree::names::{NameId, Names};
 use ir_tree::types::{Const, Ty};

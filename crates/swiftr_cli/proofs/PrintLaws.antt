@@ -9,7 +9,7 @@ use Rattle.ir_lex.proofs.Unique.{one_token_list, tokens_or_bad}
 use Rattle.ir_parse.specs.Answers.{AreShallow}
 use Rattle.ir_print.specs.Printed.{module_text}
 use Rattle.ir_tree.specs.Shape.{ModuleShape}
-use Rattle.module_grammar.specs.Modules.{whole_module}
+use Rattle.ir_grammar_modules.specs.Modules.{whole_module}
 use Rattle.swiftr_cli.specs.Words.{print}
 use Rattle.swiftr_cli.specs.Loads.{most_text, HasFile}
 use Rattle.swiftr_cli.specs.Prints.{IsModuleOf, RefusesTokens, RefusesShort, RefusesPrint, HasModule, GivesPrinted}

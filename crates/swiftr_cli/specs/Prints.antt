@@ -5,7 +5,7 @@ use Rattle.ir_lex.specs.Quiet.{kept_of, first_outside}
 use Rattle.ir_lex.specs.Symbols.{symbols_of}
 use Rattle.ir_lex.specs.declared.token.Token.{Token}
 use Rattle.ir_tree.specs.Shape.{ModuleShape}
-use Rattle.module_grammar.specs.Modules.{whole_module}
+use Rattle.ir_grammar_modules.specs.Modules.{whole_module}
 use Rattle.ir_parse.specs.Answers.{AreShallow, IsWrongAt, IsDeepAt}
 use Rattle.ir_print.specs.Printed.{module_text}
 use Rattle.swiftr_cli.specs.Loads.{most_text}

@@ -1,6 +1,6 @@
 use Rattle.std.proofs.Common.{◌≡◌, ◌+◌, ◌-◌, take, subst, arith}
 use Rattle.ir_lex.specs.Symbols.{symbols_of}
-use Rattle.const_grammar.specs.Depth.{IsTooDeep}
+use Rattle.ir_grammar_consts.specs.Depth.{IsTooDeep}
 use Rattle.ir_parse.proofs.Wholes.{shallow_parses, deep_at, shallow_at}
 use Rattle.ir_parse.proofs.parse.Goals as goal
 

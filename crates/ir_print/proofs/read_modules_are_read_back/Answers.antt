@@ -1,13 +1,13 @@
 use Rattle.std.proofs.Common.{ℕ, List}
 use Rattle.ir_lex.specs.Symbols.{symbols_of}
 use Rattle.ir_lex.specs.declared.token.Token.{Token}
-use Rattle.ir_spell.specs.Printed.{AreBytes, ArePrintable}
-use Rattle.ir_spell.specs.Spells.{Spells}
-use Rattle.ir_spell.proofs.Readable.{symbols_are_readable}
+use Rattle.ir_print_symbols.specs.Printed.{AreBytes, ArePrintable}
+use Rattle.ir_print_symbols.specs.Spells.{Spells}
+use Rattle.ir_print_symbols.proofs.Readable.{symbols_are_readable}
 use Rattle.ir_tree.specs.Shape.{ModuleShape}
-use Rattle.module_grammar.specs.Modules.{whole_module}
-use Rattle.module_grammar.specs.Spelling.{module_spelling}
-use Rattle.module_grammar.proofs.ModuleFits.{module_fits}
+use Rattle.ir_grammar_modules.specs.Modules.{whole_module}
+use Rattle.ir_grammar_modules.specs.Spelling.{module_spelling}
+use Rattle.ir_grammar_modules.proofs.ModuleFits.{module_fits}
 use Rattle.ir_print.specs.Printed.{module_text}
 use Rattle.ir_print.proofs.Lines.{module_spelled, module_back, module_word}
 use Rattle.ir_print.proofs.PrintableModules.{module_printable}

@@ -1,6 +1,6 @@
 -- the brackets that are open, and the count from here on
 use Rattle.std.proofs.Common.{◌≡◌, ◌≤◌}
-use Rattle.const_grammar.specs.Counting.{deep_len}
+use Rattle.ir_grammar_consts.specs.Counting.{deep_len}
 use Rattle.ir_const.specs.Answers.{symbols_from}
 use Rattle.ir_const.specs.Places.{cut_of}
 use Rattle.ir_const.proofs.depth.deep_end.Given as goal

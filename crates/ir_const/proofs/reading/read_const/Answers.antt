@@ -1,8 +1,8 @@
 use Rattle.std.proofs.Common.{length, sym, subst, arith, refl, Ok, Err}
 use Rattle.ir_tree.specs.ShapeOf.{const_shape}
-use Rattle.const_grammar.specs.Constants.{const}
-use Rattle.const_grammar.proofs.ConstLaw.{good_const}
-use Rattle.const_grammar.proofs.ClosedEnds.{ends_const}
+use Rattle.ir_grammar_consts.specs.Constants.{const}
+use Rattle.ir_grammar_consts.proofs.ConstLaw.{good_const}
+use Rattle.ir_grammar_consts.proofs.ClosedEnds.{ends_const}
 use Rattle.ir_const.specs.Answers.{Answers}
 use Rattle.ir_const.proofs.Wholes.{whole_const}
 use Rattle.ir_const.proofs.Deep.{answers}

@@ -1,8 +1,8 @@
 use Rattle.std.proofs.Common.{length, sym, subst, arith, refl, Ok, Err}
 use Rattle.ir_tree.specs.ShapeOf.{ty_shape}
-use Rattle.const_grammar.specs.Types.{ty}
-use Rattle.const_grammar.proofs.TypeLaw.{good_ty}
-use Rattle.const_grammar.proofs.ClosedEnds.{ends_ty}
+use Rattle.ir_grammar_consts.specs.Types.{ty}
+use Rattle.ir_grammar_consts.proofs.TypeLaw.{good_ty}
+use Rattle.ir_grammar_consts.proofs.ClosedEnds.{ends_ty}
 use Rattle.ir_const.specs.Answers.{Answers}
 use Rattle.ir_const.proofs.Wholes.{whole_ty}
 use Rattle.ir_const.proofs.Deep.{answers}

@@ -1,8 +1,8 @@
 use Rattle.std.proofs.Common.{◌≡◌, ◌+◌, ◌-◌, suc, true, false, length, drop, subst, arith, rules}
 use Rattle.std.proofs.lemmas.Result.{err_from_is_err_and}
-use Rattle.ir_grammar.specs.Reader.{opens}
+use Rattle.grammar.specs.Reader.{opens}
 use Rattle.ir_lex.specs.Symbols.{symbols_of}
-use Rattle.module_grammar.specs.Modules.{begins_item}
+use Rattle.ir_grammar_modules.specs.Modules.{begins_item}
 use Rattle.ir_parse.proofs.ItemsSoFar.{ItemsRead, items_start, items_next, items_close, items_run_out, items_stopped, draft_stays}
 use Rattle.ir_parse.proofs.modules.items_at.Goals as goal
 

@@ -1,6 +1,6 @@
 use Rattle.std.proofs.Common.{◌≡◌, ◌++◌, drop, map, false}
 use Rattle.ir_tree.specs.ShapeOf.{phi_in_shape}
-use Rattle.const_printer.specs.Texts.{in_row}
+use Rattle.ir_print_consts.specs.Texts.{in_row}
 use Rattle.ir_print.specs.Texts.{input_text}
 use Rattle.ir_print.proofs.instructions.push_input_row.Given as goal
 

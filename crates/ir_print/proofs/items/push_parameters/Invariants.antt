@@ -1,6 +1,6 @@
 use Rattle.std.proofs.Common.{◌≡◌, ◌++◌, drop, map, false}
 use Rattle.ir_tree.specs.ShapeOf.{param_shape}
-use Rattle.const_printer.specs.Texts.{in_row}
+use Rattle.ir_print_consts.specs.Texts.{in_row}
 use Rattle.ir_print.specs.Texts.{parameter_text}
 use Rattle.ir_print.proofs.items.push_parameters.Given as goal
 

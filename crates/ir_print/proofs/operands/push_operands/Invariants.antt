@@ -1,6 +1,6 @@
 use Rattle.std.proofs.Common.{◌≡◌, ◌++◌, drop, map}
 use Rattle.ir_tree.specs.ShapeOf.{ty_val_shape}
-use Rattle.const_printer.specs.Texts.{in_row}
+use Rattle.ir_print_consts.specs.Texts.{in_row}
 use Rattle.ir_print.specs.Texts.{typed_text}
 use Rattle.ir_print.proofs.operands.push_operands.Given as goal
 

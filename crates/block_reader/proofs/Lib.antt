@@ -1,9 +1,0 @@
-pub mod LineByLine
-pub mod Sound
-pub mod SoundLines
-pub mod SoundBlocks
-pub mod Pieces
-pub mod MarksAhead
-pub mod LineParts
-pub mod LinesSoFar
-pub mod WholeBlocks

@@ -1,3 +1,0 @@
-pub mod Spots
-pub mod Shapes
-pub mod Lines

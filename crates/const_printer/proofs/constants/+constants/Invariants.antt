@@ -1,8 +1,0 @@
-use Rattle.std.proofs.Common.{◌≡◌, ◌++◌, drop, map}
-use Rattle.const_printer.specs.Texts.{in_row, typed_text}
-use Rattle.const_printer.proofs.constants.+constants.Given as goal
-
-abbrev pub invariant-push_row-loop-typed : goal.invariant-push_row-loop-typed
-invariant-push_row-loop-typed l =
-    l.to.items ++ in_row l.needs_comma (map (typed_text l.names) (drop l.typed-index l.row))
-    ≡ l.initial.to.items ++ in_row l.initial.is_behind (map (typed_text l.names) l.row)

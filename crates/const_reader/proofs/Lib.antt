@@ -1,4 +1,0 @@
-pub mod Texts
-pub mod Flags
-pub mod Steps
-pub mod Parts

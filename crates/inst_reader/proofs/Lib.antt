@@ -1,4 +1,0 @@
-pub mod WrapFlags
-pub mod Parts
-pub mod Counted
-pub mod Callee

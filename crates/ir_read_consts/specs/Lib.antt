@@ -1,0 +1,3 @@
+pub mod TypeHeads
+pub mod ConstHeads
+pub mod ConstOperands

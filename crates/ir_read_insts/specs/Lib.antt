@@ -1,0 +1,3 @@
+pub mod InstHeads
+pub mod Operands
+pub mod TermHeads

@@ -1,0 +1,238 @@
+//! The tokens that tell what an instruction is, and its flags.
+
+ghost use Rattle.std.specs.Prelude.{◌≡◌, ◌+◌, ◌≤◌, true, false, length, drop, option_map, IfOk, MatchOption};
+ghost use Rattle.grammar.specs.Reader.{Got, heads, opens, run_one};
+ghost use Rattle.grammar.specs.Code.{Gives, Steps};
+ghost use Rattle.ir_lex.specs.Symbols.{KeywordSymbol, symbols_of};
+ghost use Rattle.ir_grammar_insts.specs.Operands.{asked, into};
+ghost use Rattle.ir_grammar_insts.specs.Arithmetic.{wrap_flag, run_wrap_flags, run_exact_flag};
+ghost use Rattle.ir_grammar_insts.specs.Instructions.{phi_word, inst_head};
+ghost use Rattle.ir_read_insts.specs.InstHeads.{head_from, with_flag};
+
+use grammar::Stop;
+use ir_cursor::{Meaning, meaning_at};
+use ir_lex::{Keyword, Token};
+use ir_tree::module::{Bin, Conv, Flags, Pred};
+
+/// What the first token of an instruction says of it.
+#[derive(Clone, Copy, Debug)]
+pub enum Head {
+    /// An operation with the flags `nuw` and `nsw`.
+    Wrapping(Bin),
+    /// An operation with the flag `exact`.
+    Exact(Bin),
+    /// An operation without flags.
+    Plain(Bin),
+    /// `icmp`.
+    Icmp,
+    /// `select`.
+    Select,
+    /// `zext` or `sext`.
+    Extend(Conv),
+    /// `trunc`.
+    Trunc,
+    /// `freeze`.
+    Freeze,
+    /// `alloca`.
+    Alloca,
+    /// `load`.
+    Load,
+    /// `store`.
+    Store,
+    /// `getelementptr`.
+    Element,
+    /// `call`.
+    Call,
+}
+
+/// No flag.
+pub const NO_FLAGS: Flags = Flags {
+    nuw: false,
+    nsw: false,
+    exact: false,
+};
+
+/// The head that a word is.
+fn head_of(word: Keyword) -> Option<Head>
+    ensures { option_map head_from result ≡ inst_head (KeywordSymbol word) }
+{
+    Some(match word {
+        Keyword::Add => Head::Wrapping(Bin::Add),
+        Keyword::Sub => Head::Wrapping(Bin::Sub),
+        Keyword::Mul => Head::Wrapping(Bin::Mul),
+        Keyword::Shl => Head::Wrapping(Bin::Shl),
+        Keyword::Udiv => Head::Exact(Bin::Udiv),
+        Keyword::Sdiv => Head::Exact(Bin::Sdiv),
+        Keyword::Lshr => Head::Exact(Bin::Lshr),
+        Keyword::Ashr => Head::Exact(Bin::Ashr),
+        Keyword::Urem => Head::Plain(Bin::Urem),
+        Keyword::Srem => Head::Plain(Bin::Srem),
+        Keyword::And => Head::Plain(Bin::And),
+        Keyword::Or => Head::Plain(Bin::Or),
+        Keyword::Xor => Head::Plain(Bin::Xor),
+        Keyword::Icmp => Head::Icmp,
+        Keyword::Select => Head::Select,
+        Keyword::Zext => Head::Extend(Conv::Zext),
+        Keyword::Sext => Head::Extend(Conv::Sext),
+        Keyword::Trunc => Head::Trunc,
+        Keyword::Freeze => Head::Freeze,
+        Keyword::Alloca => Head::Alloca,
+        Keyword::Load => Head::Load,
+        Keyword::Store => Head::Store,
+        Keyword::GetElementPtr => Head::Element,
+        Keyword::Call => Head::Call,
+        _ => return None,
+    })
+}
+
+/// Whether an instruction begins with a word, behind its result if it has one; `phi` begins none.
+pub fn is_inst_word(word: Keyword) -> bool
+    ensures { result ≡ heads inst_head (KeywordSymbol word) }
+{
+    head_of(word).is_some()
+}
+
+/// The head of the instruction at `at`, and the number of the next token.
+pub fn head_at(text: &[u8], toks: &[Token], at: usize) -> Result<(Head, usize), Stop>
+    requires { at ≤ length (symbols_of text.now toks.now) }
+    ensures reads { Gives head_from (symbols_of text.now toks.now) result
+        (run_one inst_head (drop at (symbols_of text.now toks.now))) }
+    ensures next { IfOk result (λ x. x.1 ≡ at + 1) }
+{
+    let Some(Meaning::Keyword(word)) = meaning_at(text, toks, at) else {
+        return Err(Stop::WrongSymbol(at));
+    };
+    match head_of(word) {
+        Some(head) => Ok((head, at + 1)),
+        None => Err(Stop::WrongSymbol(at)),
+    }
+}
+
+/// The number of the token behind `phi`, which has to be at `at`.
+pub fn phi_word_at(text: &[u8], toks: &[Token], at: usize) -> Result<usize, Stop>
+    requires { at ≤ length (symbols_of text.now toks.now) }
+    ensures steps { Steps (symbols_of text.now toks.now) result
+        (run_one phi_word (drop at (symbols_of text.now toks.now))) }
+    ensures next { IfOk result (λ n. n ≡ at + 1) }
+{
+    match meaning_at(text, toks, at) {
+        Some(Meaning::Keyword(Keyword::Phi)) => Ok(at + 1),
+        _ => Err(Stop::WrongSymbol(at)),
+    }
+}
+
+/// The number of the token behind `to`, which has to be at `at`.
+pub fn into_at(text: &[u8], toks: &[Token], at: usize) -> Result<usize, Stop>
+    requires { at ≤ length (symbols_of text.now toks.now) }
+    ensures steps { Steps (symbols_of text.now toks.now) result
+        (run_one into (drop at (symbols_of text.now toks.now))) }
+    ensures next { IfOk result (λ n. n ≡ at + 1) }
+{
+    match meaning_at(text, toks, at) {
+        Some(Meaning::Keyword(Keyword::To)) => Ok(at + 1),
+        _ => Err(Stop::WrongSymbol(at)),
+    }
+}
+
+/// What `icmp` asks with a word.
+fn predicate_of(word: Keyword) -> Option<Pred>
+    ensures { result ≡ asked (KeywordSymbol word) }
+{
+    Some(match word {
+        Keyword::Eq => Pred::Eq,
+        Keyword::Ne => Pred::Ne,
+        Keyword::Ugt => Pred::Ugt,
+        Keyword::Uge => Pred::Uge,
+        Keyword::Ult => Pred::Ult,
+        Keyword::Ule => Pred::Ule,
+        Keyword::Sgt => Pred::Sgt,
+        Keyword::Sge => Pred::Sge,
+        Keyword::Slt => Pred::Slt,
+        Keyword::Sle => Pred::Sle,
+        _ => return None,
+    })
+}
+
+/// What `icmp` asks, at `at`, and the number of the next token.
+pub fn predicate_at(text: &[u8], toks: &[Token], at: usize) -> Result<(Pred, usize), Stop>
+    requires { at ≤ length (symbols_of text.now toks.now) }
+    ensures reads { Gives (λ p. p) (symbols_of text.now toks.now) result
+        (run_one asked (drop at (symbols_of text.now toks.now))) }
+    ensures next { IfOk result (λ x. x.1 ≡ at + 1) }
+{
+    let Some(Meaning::Keyword(word)) = meaning_at(text, toks, at) else {
+        return Err(Stop::WrongSymbol(at));
+    };
+    match predicate_of(word) {
+        Some(predicate) => Ok((predicate, at + 1)),
+        None => Err(Stop::WrongSymbol(at)),
+    }
+}
+
+/// The flag of an operation at `at`: whether it is `nuw`, and not `nsw`.
+fn wrap_flag_at(text: &[u8], toks: &[Token], at: usize) -> Option<bool>
+    requires { at ≤ length (symbols_of text.now toks.now) }
+    ensures { MatchOption result (opens (heads wrap_flag) (drop at (symbols_of text.now toks.now)) ≡ false)
+        (λ b. (opens (heads wrap_flag) (drop at (symbols_of text.now toks.now)) ≡ true)
+        × (run_one wrap_flag (drop at (symbols_of text.now toks.now))
+        ≡ Got b (drop (at + 1) (symbols_of text.now toks.now)))
+        × (at + 1 ≤ length (symbols_of text.now toks.now))) }
+{
+    match meaning_at(text, toks, at) {
+        Some(Meaning::Keyword(Keyword::Nuw)) => Some(true),
+        Some(Meaning::Keyword(Keyword::Nsw)) => Some(false),
+        _ => None,
+    }
+}
+
+/// The flags, and `nuw` or else `nsw`.
+fn flags_with(flags: Flags, nuw: bool) -> Flags
+    ensures { result ≡ with_flag flags nuw }
+{
+    Flags {
+        nuw: flags.nuw || nuw,
+        nsw: flags.nsw || !nuw,
+        exact: flags.exact,
+    }
+}
+
+/// The flags `nuw` and `nsw` from `at` on, and the number of the token behind them. At most `budget`
+/// flags are read.
+pub fn wrap_flags_at(text: &[u8], toks: &[Token], at: usize, budget: usize) -> (Flags, usize)
+    requires { at ≤ length (symbols_of text.now toks.now) }
+    ensures reads { run_wrap_flags budget (drop at (symbols_of text.now toks.now))
+        ≡ Got result.0 (drop result.1 (symbols_of text.now toks.now)) }
+    ensures within { result.1 ≤ length (symbols_of text.now toks.now) }
+    ensures next { at ≤ result.1 }
+{
+    let mut flags = NO_FLAGS;
+    let mut next = at;
+    for _ in 0..budget {
+        let Some(nuw) = wrap_flag_at(text, toks, next) else {
+            return (flags, next);
+        };
+        flags = flags_with(flags, nuw);
+        next += 1;
+    }
+    (flags, next)
+}
+
+/// The flag `exact`, if it is at `at`, and the number of the token behind it.
+pub fn exact_at(text: &[u8], toks: &[Token], at: usize) -> (Flags, usize)
+    requires { at ≤ length (symbols_of text.now toks.now) }
+    ensures reads { run_exact_flag (drop at (symbols_of text.now toks.now))
+        ≡ Got result.0 (drop result.1 (symbols_of text.now toks.now)) }
+    ensures within { result.1 ≤ length (symbols_of text.now toks.now) }
+    ensures next { at ≤ result.1 }
+{
+    match meaning_at(text, toks, at) {
+        Some(Meaning::Keyword(Keyword::Exact)) => (
+            Flags {
+                exact: true,
+                ..NO_FLAGS
+            },
+            at + 1,
+        ),
+        _ => (NO_FLAGS, at),
+    }
+}

@@ -1,0 +1,77 @@
+//! Instructions but phis, each from its first word on.
+
+ghost use Rattle.std.specs.Prelude.{◌≡◌, ◌+◌, ◌^◌, ◌<◌, ◌≤◌, length, drop, true, IfOk};
+ghost use Rattle.grammar.specs.Code.{Gives};
+ghost use Rattle.ir_lex.specs.Symbols.{symbols_of};
+ghost use Rattle.ir_tree.specs.NameTable.{Grows};
+ghost use Rattle.ir_tree.specs.ShapeOf.{body_shape};
+ghost use Rattle.ir_tree.specs.Known.{body_known};
+ghost use Rattle.ir_grammar_insts.specs.Instructions.{run_inst, run_inst_rest};
+ghost use Rattle.ir_read_insts.specs.InstHeads.{head_from};
+
+use crate::arithmetic::{
+    exact_binary_at, extend_at, freeze_at, icmp_at, plain_at, select_at, trunc_at, wrapping_at,
+};
+use crate::inst_heads::{Head, head_at};
+use crate::memory::{alloca_at, call_at, element_at, load_at, store_at};
+use grammar::Stop;
+use ir_lex::Token;
+use ir_tree::module::Body;
+use ir_tree::names::Names;
+use std::alloc::Global;
+
+/// The instruction at `at`, and the number of the token behind it. At most `budget` tokens are read.
+pub fn inst_at(
+    alloc: Global,
+    text: &[u8],
+    toks: &[Token],
+    at: usize,
+    budget: usize,
+    names: &mut Names,
+) -> Result<(Body, usize), Stop>
+    requires within { at ≤ length (symbols_of text.now toks.now) }
+    requires room { length names.old + length (symbols_of text.now toks.now) < 2 ^ 32 + at }
+    ensures grows { Grows names.old names.new }
+    ensures count { IfOk result (λ x. length names.new + at ≤ length names.old + x.1) }
+    ensures known { IfOk result (λ x. body_known (length names.new) x.0 ≡ true) }
+    ensures reads { Gives (body_shape names.new) (symbols_of text.now toks.now) result
+        (run_inst budget (drop at (symbols_of text.now toks.now))) }
+{
+    let (head, next) = head_at(text, toks, at)?;
+    rest_at(alloc, text, toks, next, budget, head, names)
+}
+
+/// What follows the head of an instruction, from `at` on.
+fn rest_at(
+    alloc: Global,
+    text: &[u8],
+    toks: &[Token],
+    at: usize,
+    budget: usize,
+    head: Head,
+    names: &mut Names,
+) -> Result<(Body, usize), Stop>
+    requires within { at ≤ length (symbols_of text.now toks.now) }
+    requires room { length names.old + length (symbols_of text.now toks.now) < 2 ^ 32 + at }
+    ensures grows { Grows names.old names.new }
+    ensures count { IfOk result (λ x. length names.new + at ≤ length names.old + x.1) }
+    ensures known { IfOk result (λ x. body_known (length names.new) x.0 ≡ true) }
+    ensures reads { Gives (body_shape names.new) (symbols_of text.now toks.now) result
+        (run_inst_rest budget (head_from head) (drop at (symbols_of text.now toks.now))) }
+{
+    match head {
+        Head::Wrapping(operation) => wrapping_at(alloc, text, toks, at, budget, operation, names),
+        Head::Exact(operation) => exact_binary_at(alloc, text, toks, at, budget, operation, names),
+        Head::Plain(operation) => plain_at(alloc, text, toks, at, budget, operation, names),
+        Head::Icmp => icmp_at(alloc, text, toks, at, budget, names),
+        Head::Select => select_at(alloc, text, toks, at, budget, names),
+        Head::Extend(conversion) => extend_at(alloc, text, toks, at, budget, conversion, names),
+        Head::Trunc => trunc_at(alloc, text, toks, at, budget, names),
+        Head::Freeze => freeze_at(alloc, text, toks, at, budget, names),
+        Head::Alloca => alloca_at(alloc, text, toks, at, budget, names),
+        Head::Load => load_at(alloc, text, toks, at, budget, names),
+        Head::Store => store_at(alloc, text, toks, at, budget, names),
+        Head::Element => element_at(alloc, text, toks, at, budget, names),
+        Head::Call => call_at(alloc, text, toks, at, budget, names),
+    }
+}

@@ -1,0 +1,4 @@
+pub mod Spots
+pub mod BlockShapes
+pub mod Lines
+pub mod ItemShapes

@@ -1,6 +1,0 @@
-use Rattle.std.proofs.Common.{◌≡◌, ◌++◌, drop}
-use Rattle.ir_spell.specs.Printed.{escaped}
-use Rattle.ir_spell.proofs.pieces.push_escaped.Given as goal
-
-abbrev pub invariant-loop-byte : goal.invariant-loop-byte
-invariant-loop-byte l = l.to.items ++ escaped (drop l.byte-index l.bytes) ≡ l.initial.to.items ++ escaped l.bytes

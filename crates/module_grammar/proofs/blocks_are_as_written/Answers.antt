@@ -1,8 +1,0 @@
-use Rattle.module_grammar.proofs.LinesToldApart.{lines_in, lines_out}
-use Rattle.module_grammar.proofs.blocks_are_as_written.Goals as goal
-
-pub returns-clause-into : goal.returns-clause-into
-returns-clause-into c symbols insts word = lines_in symbols insts word
-
-pub returns-clause-back : goal.returns-clause-back
-returns-clause-back c symbols insts word = lines_out symbols insts word
