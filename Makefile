@@ -1,18 +1,31 @@
-# build: proves and builds the command; demo: compiles an example and flips bits in it; test: the gate.
+# `make help` says what there is.
 program := crates/swiftr_cli/out/swiftr_cli
+released := dist/swiftr-linux-x86_64
+PREFIX ?= /usr/local
+export SWIFTR_QUIET ?= 1
 
-.PHONY: build demo test clean
+.PHONY: help build demo test lint documents release install uninstall man clean distclean
 
-# `rt run` proves all crates below, builds the program and runs it, here without words, which prints `usage`.
+help:
+	@echo 'make demo                compiles an example, runs it, and flips bits in it (seconds; runs dist/ where nothing is built)'
+	@echo 'make build               proves this tree and builds the command (from nothing an hour or so on four processors)'
+	@echo 'make test                the gate: proves everything, tries every must-fail edit, runs every test and program'
+	@echo 'make lint                looks for long clauses, missing docs and the like (seconds; no part of the gate)'
+	@echo 'make documents           runs the commands that README and docs show, and compares what they print'
+	@echo 'make release             puts the program that was built here into dist/'
+	@echo 'make install PREFIX=P    installs the command and its manual page below P ($(PREFIX))'
+	@echo 'make clean, distclean    removes what was built, without and with the proofs that are kept'
+
+# Proves all crates below, side by side, and then builds the program and runs it without words, which prints `usage`.
 build:
 	@mkdir -p build
-	@cd crates/swiftr_cli && rt run -- 2> ../../build/build.log | grep -qx usage || { tail -n 20 ../../build/build.log; false; }
-	@touch $(program)
+	@scripts/build
 
 # Shows a command, what it prints, and its status where that isn't 0.
 show = @echo '$$ $(1)'; $(1) || echo "(status $$?)"
 
-demo: build
+demo:
+	@mkdir -p build
 	$(call show,cat examples/seven.ll)
 	$(call show,./swiftr compile examples/seven.ll build/seven.elf)
 	$(call show,./swiftr disasm build/seven.elf)
@@ -30,5 +43,31 @@ demo: build
 test:
 	@.ci/run
 
+documents:
+	@scripts/check_documents
+
+release:
+	@scripts/release
+
+man: build/swiftr.1
+
+build/swiftr.1: docs/COMMANDS.md scripts/make_manual
+	@mkdir -p build
+	@scripts/make_manual docs/COMMANDS.md > $@
+
+install: man
+	@test -x $(released) || { echo 'no program in dist/: make build release'; false; }
+	install -d $(DESTDIR)$(PREFIX)/bin $(DESTDIR)$(PREFIX)/lib/swiftr $(DESTDIR)$(PREFIX)/share/man/man1
+	install -m 755 swiftr $(DESTDIR)$(PREFIX)/bin/swiftr
+	install -m 755 $(released) $(DESTDIR)$(PREFIX)/lib/swiftr/
+	install -m 644 dist/REVISION $(DESTDIR)$(PREFIX)/lib/swiftr/
+	install -m 644 build/swiftr.1 $(DESTDIR)$(PREFIX)/share/man/man1/swiftr.1
+
+uninstall:
+	rm -rf $(DESTDIR)$(PREFIX)/bin/swiftr $(DESTDIR)$(PREFIX)/lib/swiftr $(DESTDIR)$(PREFIX)/share/man/man1/swiftr.1
+
 clean:
+	rm -rf build $(program)
+
+distclean:
 	rm -rf build crates/*/out

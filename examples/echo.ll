@@ -1,3 +1,4 @@
+; Copies the input to the output, byte by byte: echo.c, in the manner of clang 16.
 ; ModuleID = 'echo.c'
 source_filename = "echo.c"
 target datalayout = "e-m:e-p:64:64-i64:64-i128:128-n32:64-S128"
