@@ -10,7 +10,7 @@ use Rattle.rv_model.specs.Text.{text_base, StandsAll, WordsOf}
 use Rattle.rv_model.specs.Start.{program_image}
 use Rattle.rv_model.proofs.TextLemmas.{stands_from}
 use Rattle.rv_flips.specs.Cells.{Has, Sure}
-use Rattle.rv_flips.specs.Points.{Point, with_register, writes}
+use Rattle.rv_flips.specs.Assertion.{Assertion, with_register, after_write}
 use Rattle.rv_flips.specs.Moves.{Finishes}
 use Rattle.rv_flips.specs.Ending.{ending_words, ending_points}
 use Rattle.rv_flips.specs.Survives.{IsListed, Survives}
@@ -19,15 +19,15 @@ use Rattle.rv_flips.proofs.MoveLemmas.{moves_then, moves_finish}
 use Rattle.rv_flips.proofs.WordLaws.{constant_moves, exit_finishes}
 use Rattle.rv_flips.specs.Known.{Sures}
 use Rattle.rv_flips.proofs.KnownRegisters.{covered, sures_sure}
-use Rattle.rv_flips.proofs.StartLaws.{first_point, first_cells-zero, sures-first_cells, survives}
+use Rattle.rv_flips.proofs.StartLaws.{start_assertion, start_cells-zero, sures-start_cells, survives}
 use Rattle.rv_flips.proofs.Windows.{window_straight}
 
--- from any point at which x0 is known and no other register is taken to be right
-pub ending_finishes : (words : List ℕ) (listed : ℕ → ℕ → Type 0) (c : Point) (imm : ℤ) → c.regs 0 ≡ Has Sure 0 → Sures c.regs [] → c.pc + 12 < 2 ^ 64 →
+-- from any assertion that has 0 in x0, and nothing else for sure
+pub ending_finishes : (words : List ℕ) (listed : ℕ → ℕ → Type 0) (c : Assertion) (imm : ℤ) → c.regs 0 ≡ Has Sure 0 → Sures c.regs [] → c.pc + 12 < 2 ^ 64 →
     StandsAll words c.pc (ending_words imm) → listed (c.pc + 4) 10 → listed (c.pc + 4 + 4) 10 → listed (c.pc + 4 + 4) 17 → Finishes words listed c 3 c.out (bits64 imm % 256)
 ending_finishes words listed c imm x0 sures room stands l1 l2 l3 =
-    let d = writes c 10 (Has Sure (bits64 imm)) (c.pc + 4) in
-    let e = writes (writes c 10 (Has Sure (bits64 imm)) (c.pc + 4)) 17 (Has Sure 93) (c.pc + 4 + 4) in
+    let d = after_write c 10 (Has Sure (bits64 imm)) (c.pc + 4) in
+    let e = after_write (after_write c 10 (Has Sure (bits64 imm)) (c.pc + 4)) 17 (Has Sure 93) (c.pc + 4 + 4) in
     let at1 : plus64 c.pc 4 ≡ c.pc + 4 = omega arith in
     let at2 : plus64 (c.pc + 4) 4 ≡ c.pc + 4 + 4 = omega arith in
     let sures1 = sures_sure c.regs 10 (bits64 imm) [] sures in
@@ -52,7 +52,7 @@ pub ending_survives : (words init : List ℕ) (extra : ℕ) (input : List ℕ) (
 ending_survives words init extra input imm h =
     let stands : StandsAll words text_base (ending_words imm) = stands_from words 0 words [] (ending_words imm) (sym (append-nil words)) h in
     survives words init extra input ending_points 3 (2 * (length words + 1)) [] (bits64 imm % 256) (omega (arith, length_of words (ending_words imm) h))
-    (ending_finishes words (IsListed ending_points) (first_point init input extra) imm first_cells-zero sures-first_cells (lit< tt) stands (0, (65540, 10), lit< tt, refl, (refl, refl)) (1, (65544, 10), lit< tt, refl, (refl, refl)) (2, (65544, 17), lit< tt, refl, (refl, refl)))
+    (ending_finishes words (IsListed ending_points) (start_assertion init input extra) imm start_cells-zero sures-start_cells (lit< tt) stands (0, (65540, 10), lit< tt, refl, (refl, refl)) (1, (65544, 10), lit< tt, refl, (refl, refl)) (2, (65544, 17), lit< tt, refl, (refl, refl)))
 
 -- each of them is a window point of the text
 pub ending_windows : (words : List ℕ) (imm : ℤ) → WordsOf words (ending_words imm) → (p r : ℕ) → IsListed ending_points p r → IsWindowPoint words text_base p r

@@ -1,5 +1,5 @@
 pub mod Cells
-pub mod Points
+pub mod Assertion
 pub mod Moves
 pub mod Survives
 pub mod Ending

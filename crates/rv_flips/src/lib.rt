@@ -1,4 +1,4 @@
-//! Words under one flip: what is known at a point of a text, whatever single bit of whatever register was
+//! Words under one flip: what is known at an address of a text, whatever single bit of whatever register was
 //! flipped before, outside a list of points. Definitions and laws; there is no code here.
 #![tactic(auto)]
 
