@@ -4,9 +4,12 @@ use Rattle.std.specs.Prelude.{ℤ, pos, negsuc, ◌*ℤ◌, neg_ℤ, nat_lt, uns
 use Rattle.std.specs.Int.{int_shr}
 use Rattle.std.proofs.lemmas.Bool.Decides.{nat_tests}
 use Rattle.std.proofs.lemmas.Int.{unsigned_abs-mul}
-use Rattle.std.proofs.lemmas.Nat.{mul-le, and_le_l}
+use Rattle.std.proofs.lemmas.Nat.{mul-le, and_le_l, or_lt, xor_lt}
 use Rattle.std.proofs.Math.Nat.{div-le_self, mod-le}
-use Rattle.rv_model.specs.Operations.{bits64, bits32, signed64, signed32, sign_extended, word32, truth, shifted_right, shifted_signed, shifted_signed32, quotient, quotient_unsigned, remainder, remainder_unsigned, quotient32, quotient_unsigned32, remainder32, remainder_unsigned32, high_signed, high_mixed, high_unsigned}
+use Rattle.rv_inst.specs.declared.table.Kind.{Kind}
+use Rattle.rv_inst.specs.declared.table.Kind.TheVariants.{OpAddi, OpSlti, OpSltiu, OpXori, OpOri, OpAndi, OpSlli, OpSrli, OpSrai, OpAdd, OpSub, OpSll, OpSlt, OpSltu, OpXor, OpSrl, OpSra, OpOr, OpAnd, OpAddiw, OpSlliw, OpSrliw, OpSraiw, OpAddw, OpSubw, OpSllw, OpSrlw, OpSraw, OpMul, OpMulh, OpMulhsu, OpMulhu, OpDiv, OpDivu, OpRem, OpRemu, OpMulw, OpDivw, OpDivuw, OpRemw, OpRemuw}
+use Rattle.rv_model.specs.State.{plus64}
+use Rattle.rv_model.specs.Operations.{bits64, bits32, signed64, signed32, sign_extended, word32, truth, shifted_right, shifted_signed, shifted_signed32, quotient, quotient_unsigned, remainder, remainder_unsigned, quotient32, quotient_unsigned32, remainder32, remainder_unsigned32, high_signed, high_mixed, high_unsigned, minus64, less_signed, shifted_left, times64, operation}
 
 -- the low 64 bits
 pub low_wide : (n : ℕ) → n % 2 ^ 64 < 2 ^ 64
@@ -148,3 +151,48 @@ remainder32_wide a b =
 pub remainder_unsigned32_wide : (a b : ℕ) → remainder_unsigned32 a b < 2 ^ 64
 remainder_unsigned32_wide a b =
     chosen_wide (b % 2 ^ 32 == 0) (word32 a) (word32 (a % 2 ^ 32 % (b % 2 ^ 32))) (word32_wide a) (word32_wide (a % 2 ^ 32 % (b % 2 ^ 32)))
+
+-- what an instruction computes of words of 64 bits
+pub operation_wide : (kind : Kind) (a b : ℕ) → a < 2 ^ 64 → b < 2 ^ 64 → operation kind a b < 2 ^ 64
+operation_wide OpAddi a b h k = low_wide (a + b)
+operation_wide OpSlti a b h k = truth_wide (less_signed a b)
+operation_wide OpSltiu a b h k = truth_wide (nat_lt a b)
+operation_wide OpXori a b h k = xor_lt 64 a b h k
+operation_wide OpOri a b h k = or_lt 64 a b h k
+operation_wide OpAndi a b h k = and_wide a b h
+operation_wide OpSlli a b h k = low_wide (a * 2 ^ (b % 64))
+operation_wide OpSrli a b h k = shifted_right_wide a b h
+operation_wide OpSrai a b h k = shifted_signed_wide a b h
+operation_wide OpAddiw a b h k = word32_wide (plus64 a b)
+operation_wide OpSlliw a b h k = word32_wide (shifted_left a (b % 32))
+operation_wide OpSrliw a b h k = word32_wide (a % 2 ^ 32 / 2 ^ (b % 32))
+operation_wide OpSraiw a b h k = shifted_signed32_wide a b
+operation_wide OpAdd a b h k = low_wide (a + b)
+operation_wide OpSub a b h k = low_wide (a + (2 ^ 64 - b))
+operation_wide OpSll a b h k = low_wide (a * 2 ^ (b % 64))
+operation_wide OpSlt a b h k = truth_wide (less_signed a b)
+operation_wide OpSltu a b h k = truth_wide (nat_lt a b)
+operation_wide OpXor a b h k = xor_lt 64 a b h k
+operation_wide OpSrl a b h k = shifted_right_wide a b h
+operation_wide OpSra a b h k = shifted_signed_wide a b h
+operation_wide OpOr a b h k = or_lt 64 a b h k
+operation_wide OpAnd a b h k = and_wide a b h
+operation_wide OpAddw a b h k = word32_wide (plus64 a b)
+operation_wide OpSubw a b h k = word32_wide (minus64 a b)
+operation_wide OpSllw a b h k = word32_wide (shifted_left a (b % 32))
+operation_wide OpSrlw a b h k = word32_wide (a % 2 ^ 32 / 2 ^ (b % 32))
+operation_wide OpSraw a b h k = shifted_signed32_wide a b
+operation_wide OpMul a b h k = low_wide (a * b)
+operation_wide OpMulh a b h k = high_signed_wide a b h k
+operation_wide OpMulhsu a b h k = high_mixed_wide a b h k
+operation_wide OpMulhu a b h k = high_unsigned_wide a b h k
+operation_wide OpDiv a b h k = quotient_wide a b h
+operation_wide OpDivu a b h k = quotient_unsigned_wide a b h
+operation_wide OpRem a b h k = remainder_wide a b h
+operation_wide OpRemu a b h k = remainder_unsigned_wide a b h
+operation_wide OpMulw a b h k = word32_wide (times64 a b)
+operation_wide OpDivw a b h k = quotient32_wide a b
+operation_wide OpDivuw a b h k = quotient_unsigned32_wide a b
+operation_wide OpRemw a b h k = remainder32_wide a b
+operation_wide OpRemuw a b h k = remainder_unsigned32_wide a b
+operation_wide _ a b h k = omega arith
