@@ -12,7 +12,7 @@ use Rattle.rv_model.specs.Text.{Stands, StandsAll}
 use Rattle.rv_model.proofs.ActLemmas.{act-ADDI, act-BEQ}
 use Rattle.rv_model.proofs.RunLemmas.{run-continues, more-more}
 use Rattle.rv_model.proofs.TextLemmas.{step-stands}
-use Rattle.rv_flips.specs.Cells.{Damage, NoDamage, First, Second, Third, Sure, One, Two, Three, Cell, Has, Holds, with_error}
+use Rattle.rv_flips.specs.Cells.{Damage, Nothing, First, Second, Third, Sure, One, Two, Three, Cell, Has, Holds, with_error}
 use Rattle.rv_flips.specs.Assertion.{Assertion, Meets, with_register, after_write}
 use Rattle.rv_flips.specs.Moves.{Covered, Ready, Arrives, Moves}
 use Rattle.rv_flips.proofs.CellLemmas.{sure_holds, with_register-same, with_register-other}
@@ -35,11 +35,11 @@ agree d b v x y Second h k e = h
 agree d b v x y _ h k e = h
 
 -- where they differ, something is damaged, and a third copy is right
-differ : (d b t v x y z : ℕ) (damage : Damage) → Holds d (Has One v) damage x → Holds b (Has Two v) damage y → (x ≡ y → ⊥) → Holds t (Has Three v) damage z → (z ≡ v) × (damage ≡ NoDamage → ⊥)
+differ : (d b t v x y z : ℕ) (damage : Damage) → Holds d (Has One v) damage x → Holds b (Has Two v) damage y → (x ≡ y → ⊥) → Holds t (Has Three v) damage z → (z ≡ v) × (damage ≡ Nothing → ⊥)
 differ d b t v x y z First h k ne l = (l, λ e. cc)
 differ d b t v x y z Second h k ne l = (l, λ e. cc)
 differ d b t v x y z Third h k ne l = absurd (ne (h ∙ sym k))
-differ d b t v x y z NoDamage h k ne l = absurd (ne (h ∙ sym k))
+differ d b t v x y z Nothing h k ne l = absurd (ne (h ∙ sym k))
 differ d b t v x y z _ h k ne l = absurd (ne (h ∙ sym k))
 
 -- the branch is taken: the two copies are equal

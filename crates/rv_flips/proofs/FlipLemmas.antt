@@ -9,7 +9,7 @@ use Rattle.rv_model.specs.State.{MachineState, register}
 use Rattle.rv_model.specs.Run.{FlipFits, IsOutside, flipped, struck, later, pc_at}
 use Rattle.rv_model.proofs.RegisterLemmas.{register-set_same, register-set_other, length-set_register, bound-set_register, pc-set_register, segments-set_register, input-set_register, out-set_register}
 use Rattle.rv_model.proofs.RunLemmas.{run-suc, pc_at-zero, pc_at-suc}
-use Rattle.rv_flips.specs.Cells.{Damage, NoDamage, Cell, Free, Has, Sure, Holds, flip_damage}
+use Rattle.rv_flips.specs.Cells.{Damage, Nothing, Cell, Free, Has, Sure, Holds, flip_damage}
 use Rattle.rv_flips.specs.Assertion.{Assertion, Meets, SlotsHold}
 use Rattle.rv_flips.specs.Moves.{Good, Covered, Ready}
 use Rattle.rv_flips.proofs.CellLemmas.{tag_damage-other, flip_damage-own, slots-tag_damage}
@@ -19,11 +19,11 @@ pub bit_small : (b : ℕ) → b < 64 → 2 ^ b < 2 ^ 64
 bit_small b h = pow-lt h
 
 -- after a flip of a register, what holds of each other register or slot
-flip_damage-other : (own cell : Cell) (key r e x : ℕ) → key ≢ r → x < 2 ^ 64 → Holds key cell NoDamage x → Holds key cell (flip_damage own r e) x
+flip_damage-other : (own cell : Cell) (key r e x : ℕ) → key ≢ r → x < 2 ^ 64 → Holds key cell Nothing x → Holds key cell (flip_damage own r e) x
 flip_damage-other Free cell key r e x ne wide h = h
 flip_damage-other (Has tag v) cell key r e x ne wide h = tag_damage-other cell tag key r e x ne wide h
 
-slots-flip_damage : (own : Cell) (c : Assertion) (r e : ℕ) (bytes : List ℕ) → r < 32 → SlotsHold c.slots NoDamage bytes → SlotsHold c.slots (flip_damage own r e) bytes
+slots-flip_damage : (own : Cell) (c : Assertion) (r e : ℕ) (bytes : List ℕ) → r < 32 → SlotsHold c.slots Nothing bytes → SlotsHold c.slots (flip_damage own r e) bytes
 slots-flip_damage Free c r e bytes small h = h
 slots-flip_damage (Has tag v) c r e bytes small h = slots-tag_damage c.slots tag r e bytes small h
 
@@ -31,7 +31,7 @@ slots-flip_damage (Has tag v) c r e bytes small h = slots-tag_damage c.slots tag
 abbrev pub change_of : ℕ → ℕ → ℕ
 change_of x b = (bit_xor x (2 ^ b) + 2 ^ 64 - x) % 2 ^ 64
 
-pub meets_flipped : (words : List ℕ) (c : Assertion) (s : MachineState) (r b : ℕ) → Meets words c NoDamage s → 0 < r → r < 32 → b < 64 → ((v : ℕ) → c.regs r ≡ Has Sure v → ⊥) → Meets words c (flip_damage (c.regs r) r (change_of (register s r) b)) (flipped r b s)
+pub meets_flipped : (words : List ℕ) (c : Assertion) (s : MachineState) (r b : ℕ) → Meets words c Nothing s → 0 < r → r < 32 → b < 64 → ((v : ℕ) → c.regs r ≡ Has Sure v → ⊥) → Meets words c (flip_damage (c.regs r) r (change_of (register s r) b)) (flipped r b s)
 meets_flipped words c s r b meets nonzero small bit safe =
     let x = register s r in
     let y = bit_xor (register s r) (2 ^ b) in
@@ -62,7 +62,7 @@ meets_flipped words c s r b meets nonzero small bit safe =
         rw (register-set_other s r q (bit_xor (register s r) (2 ^ b)) other) (flip_damage-other (c.regs r) (c.regs q) q r (change_of (register s r) b) (register s q) other (meets.wide q) (meets.regs q))
 
 -- the flip strikes now
-struck_now : (words : List ℕ) (listed : ℕ → ℕ → Type 0) (c : Assertion) (s : MachineState) (f : Flip) → Covered listed c → Meets words c NoDamage s → FlipFits f → IsOutside listed s f → f.at ≡ 0 → Ready words listed c s (Some f)
+struck_now : (words : List ℕ) (listed : ℕ → ℕ → Type 0) (c : Assertion) (s : MachineState) (f : Flip) → Covered listed c → Meets words c Nothing s → FlipFits f → IsOutside listed s f → f.at ≡ 0 → Ready words listed c s (Some f)
 struck_now words listed c s f covered meets fits outside now =
     let at_zero : (f.at == 0) ≡ true = grind (arith, nat_tests) in
     let here : pc_at f.at s ≡ Some (c.pc) = ap (λ n. pc_at n s) now ∙ pc_at-zero s ∙ ap Some meets.pc in
@@ -80,14 +80,14 @@ struck_now words listed c s f covered meets fits outside now =
     }
 
 -- the flip comes later
-strikes_later : (words : List ℕ) (listed : ℕ → ℕ → Type 0) (c : Assertion) (s : MachineState) (f : Flip) → Meets words c NoDamage s → FlipFits f → IsOutside listed s f → (n : ℕ) → f.at ≡ suc n → Ready words listed c s (Some f)
+strikes_later : (words : List ℕ) (listed : ℕ → ℕ → Type 0) (c : Assertion) (s : MachineState) (f : Flip) → Meets words c Nothing s → FlipFits f → IsOutside listed s f → (n : ℕ) → f.at ≡ suc n → Ready words listed c s (Some f)
 strikes_later words listed c s f meets fits outside n more =
     let not_now : (f.at == 0) ≡ false = grind (arith, nat_tests) in
     let as_is : struck (Some f) s ≡ s = ap (λ b. cond b (flipped f.reg f.bit s) s) not_now in
     let kept : later (Some f) ≡ Some (record f { at = f.at - 1 }) = ap (λ b. cond b None (Some (record f { at = f.at - 1 }))) not_now in
     record {
       now = s;
-      damage = NoDamage;
+      damage = Nothing;
       rest = Some (record f { at = f.at - 1 });
       meets = meets;
       goes = λ k. run-suc k s (Some f) ∙ rw (as_is, kept, meets.out) refl;
@@ -110,9 +110,9 @@ ready words listed c s None covered good =
     }
 ready words listed c s (Some f) covered good =
     let P : Damage → Type 0 = λ damage. Meets words c damage s in
-    let meets : Meets words c NoDamage s = subst P good.pending.undamaged good.meets in
+    let meets : Meets words c Nothing s = subst P good.pending.undamaged good.meets in
     by_time (f.at) refl meets good.pending.fits good.pending.outside
   where
-    by_time : (n : ℕ) → f.at ≡ n → Meets words c NoDamage s → FlipFits f → IsOutside listed s f → Ready words listed c s (Some f)
+    by_time : (n : ℕ) → f.at ≡ n → Meets words c Nothing s → FlipFits f → IsOutside listed s f → Ready words listed c s (Some f)
     by_time zero e meets fits outside = struck_now words listed c s f covered meets fits outside e
     by_time (suc n) e meets fits outside = strikes_later words listed c s f meets fits outside n e

@@ -5,18 +5,18 @@ use Rattle.rv_model.specs.State.{MachineState}
 use Rattle.rv_model.specs.Step.{StepResult, Ends, step}
 use Rattle.rv_model.specs.Run.{more, after, run}
 use Rattle.rv_model.proofs.RunLemmas.{more-more, more-zero}
-use Rattle.rv_flips.specs.Cells.{Damage, NoDamage}
+use Rattle.rv_flips.specs.Cells.{Damage, Nothing}
 use Rattle.rv_flips.specs.Assertion.{Assertion, Meets}
 use Rattle.rv_flips.specs.Moves.{Pending, Covered, Ready, Arrives, Moves, Does, EndsWithin, Finishes}
 use Rattle.rv_flips.proofs.FlipLemmas.{ready}
 
 -- a flip that is still to come is so after a step that damages nothing
-pending_kept : (listed : ℕ → ℕ → Type 0) (damage damage' : Damage) (t : MachineState) (f : Option Flip) → (damage ≡ NoDamage → damage' ≡ NoDamage) → Pending listed damage t f → Pending listed damage' t f
+pending_kept : (listed : ℕ → ℕ → Type 0) (damage damage' : Damage) (t : MachineState) (f : Option Flip) → (damage ≡ Nothing → damage' ≡ Nothing) → Pending listed damage t f → Pending listed damage' t f
 pending_kept listed damage damage' t None keeps h = tt
 pending_kept listed damage damage' t (Some f) keeps h = record { undamaged = keeps h.undamaged; fits = h.fits; outside = h.outside }
 
 -- where something is damaged, no flip is to come
-pub settled : (listed : ℕ → ℕ → Type 0) (damage : Damage) (s : MachineState) (f : Option Flip) → (damage ≡ NoDamage → ⊥) → Pending listed damage s f → f ≡ None
+pub settled : (listed : ℕ → ℕ → Type 0) (damage : Damage) (s : MachineState) (f : Option Flip) → (damage ≡ Nothing → ⊥) → Pending listed damage s f → f ≡ None
 settled listed damage s None wrong h = refl
 settled listed damage s (Some f) wrong h = absurd (wrong h.undamaged)
 

@@ -7,7 +7,7 @@ use Rattle.rv_model.specs.Run.{run}
 use Rattle.rv_model.specs.Text.{text_base}
 use Rattle.rv_model.specs.Start.{started, program_image}
 use Rattle.rv_model.proofs.StartLemmas.{segments-started, register-started, count-started, pc-started, input-started, out-started}
-use Rattle.rv_flips.specs.Cells.{NoDamage, Cell, Free, Has, Sure, Holds}
+use Rattle.rv_flips.specs.Cells.{Nothing, Cell, Free, Has, Sure, Holds}
 use Rattle.rv_flips.specs.Assertion.{Assertion, Meets}
 use Rattle.rv_flips.specs.Moves.{EndsWithin, Finishes}
 use Rattle.rv_flips.specs.Survives.{IsListed, Ends, Survives}
@@ -32,12 +32,12 @@ unfolding start_cells
 sures-start_cells zero v is nonzero = omega arith
 sures-start_cells (suc r) v is nonzero = absurd (cc)
 
-start_holds : (q x : ℕ) → x ≡ 0 → Holds q (start_cells q) NoDamage x
+start_holds : (q x : ℕ) → x ≡ 0 → Holds q (start_cells q) Nothing x
 unfolding start_cells
 start_holds zero x e = e
 start_holds (suc q) x e = tt
 
-pub meets_start : (words init : List ℕ) (extra : ℕ) (input : List ℕ) → Meets words (start_assertion init input extra) NoDamage (started (program_image words init extra) input)
+pub meets_start : (words init : List ℕ) (extra : ℕ) (input : List ℕ) → Meets words (start_assertion init input extra) Nothing (started (program_image words init extra) input)
 meets_start words init extra input =
     let image = program_image words init extra in
     record {
@@ -67,6 +67,6 @@ survives words init extra input points n bound out status le finishes =
     let s = started (program_image words init extra) input in
     let meets = meets_start words init extra input in
     record {
-      unflipped = ends_within n bound s None out status le (finishes s None (record { damage = NoDamage; meets = meets; pending = tt }));
-      flipped = λ f fits outside. ends_within n bound s (Some f) out status le (finishes s (Some f) (record { damage = NoDamage; meets = meets; pending = record { undamaged = refl; fits = fits; outside = outside } }));
+      unflipped = ends_within n bound s None out status le (finishes s None (record { damage = Nothing; meets = meets; pending = tt }));
+      flipped = λ f fits outside. ends_within n bound s (Some f) out status le (finishes s (Some f) (record { damage = Nothing; meets = meets; pending = record { undamaged = refl; fits = fits; outside = outside } }));
     }

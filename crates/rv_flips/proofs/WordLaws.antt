@@ -11,7 +11,7 @@ use Rattle.rv_model.specs.Text.{Stands}
 use Rattle.rv_model.proofs.RegisterLemmas.{register-set_same, register-set_other, length-set_register, bound-set_register, pc-set_register, segments-set_register, input-set_register, out-set_register}
 use Rattle.rv_model.proofs.TextLemmas.{step-stands}
 use Rattle.rv_model.proofs.ActLemmas.{act-LUI, act-ADDI, act-ECALL, called-ends, bits64_small, upper_value_small}
-use Rattle.rv_flips.specs.Cells.{Damage, NoDamage, First, Second, Third, Plains, Codes, Tag, Sure, One, Two, Three, Plain, Code, Cell, Free, Has, Holds, with_error, error_of}
+use Rattle.rv_flips.specs.Cells.{Damage, Nothing, First, Second, Third, Plains, Codes, Tag, Sure, One, Two, Three, Plain, Code, Cell, Free, Has, Holds, with_error, error_of}
 use Rattle.rv_flips.specs.Assertion.{Assertion, Meets, with_register, after_write}
 use Rattle.rv_flips.specs.Moves.{Covered, Does, Moves, Finishes}
 use Rattle.rv_flips.proofs.CellLemmas.{same_test, holds_sure, error_other, error_undamaged, slots_error, with_register-same, with_register-other}
@@ -24,7 +24,7 @@ right_holds Two key v x Second e small = tt
 right_holds Three key v x Third e small = tt
 right_holds Plain key v x Plains e small = tt
 right_holds Code key v x (Codes errors) e small = let own = same_test key in rw own (omega arith)
-right_holds Sure key v x NoDamage e small = e
+right_holds Sure key v x Nothing e small = e
 right_holds _ key v x _ e small = e
 
 -- a copy is kept as what it is a copy of, with its error
@@ -34,7 +34,7 @@ copy_holds Two key from v x Second h = tt
 copy_holds Three key from v x Third h = tt
 copy_holds Plain key from v x Plains h = tt
 copy_holds Code key from v x (Codes errors) h = let own = same_test key in rw own h
-copy_holds Sure key from v x NoDamage h = h
+copy_holds Sure key from v x Nothing h = h
 copy_holds _ key from v x _ h = h
 
 -- a register is written, and the word after comes next
@@ -76,7 +76,7 @@ does_put words c damage s d v e p cell meets nonzero small wide holds at goes =
     }
 
 -- the step of a state that meets an assertion is the act of the instruction at its pc
-step_here : (words : List ℕ) (c : Assertion) (damage : Damage) (s : MachineState) (form : Form) → Meets words c damage s → Stands words c.pc form → step s ≡ act form s
+pub step_here : (words : List ℕ) (c : Assertion) (damage : Damage) (s : MachineState) (form : Form) → Meets words c damage s → Stands words c.pc form → step s ≡ act form s
 step_here words c damage s form meets stands = step-stands words meets.data_bytes s c.pc form meets.pc meets.segments stands
 
 -- a constant by ADDI from x0, kept by any tag

@@ -4,7 +4,7 @@ use Rattle.std.specs.Prelude.{◌≡◌, ℕ, ◌+◌, ◌%◌, ◌^◌, ◌==�
 -- what is damaged: nothing; first copies, second copies or third copies; plain versions of pairs; or code words of pairs, each by an
 -- error modulo 2^64 of its own. An error goes by its key: a register's number, or the key of a slot.
 pub data Damage : Type 0 where
-  NoDamage : Damage
+  Nothing : Damage
   First : Damage
   Second : Damage
   Third : Damage
@@ -57,7 +57,7 @@ error_at key e k = if k == key then e else 0
 
 -- the damage by a flip of a register whose value has this tag, where nothing was damaged before: it changed by e modulo 2^64
 abbrev pub tag_damage : Tag → ℕ → ℕ → Damage
-tag_damage Sure key e = NoDamage
+tag_damage Sure key e = Nothing
 tag_damage One key e = First
 tag_damage Two key e = Second
 tag_damage Three key e = Third
@@ -66,7 +66,7 @@ tag_damage Code key e = Codes (error_at key e)
 
 -- the damage by a flip of a register with this cell
 abbrev pub flip_damage : Cell → ℕ → ℕ → Damage
-flip_damage Free key e = NoDamage
+flip_damage Free key e = Nothing
 flip_damage (Has tag v) key e = tag_damage tag key e
 
 -- the damage with another error at one key

@@ -5,3 +5,4 @@ pub mod Survives
 pub mod Ending
 pub mod Known
 pub mod Fetching
+pub mod Computing

@@ -4,12 +4,12 @@ use Rattle.rv_model.specs.declared.Flip.{Flip}
 use Rattle.rv_model.specs.State.{MachineState}
 use Rattle.rv_model.specs.Step.{Continues, step}
 use Rattle.rv_model.specs.Run.{HasEnded, FlipFits, IsOutside, more, after, run}
-use Rattle.rv_flips.specs.Cells.{Damage, NoDamage, Has, Sure}
+use Rattle.rv_flips.specs.Cells.{Damage, Nothing, Has, Sure}
 use Rattle.rv_flips.specs.Assertion.{Assertion, Meets}
 
 -- a flip that is still to come: nothing is damaged so far, and it falls outside the list
 pub record IsPending (listed : ℕ → ℕ → Type 0) (damage : Damage) (s : MachineState) (f : Flip) : Type 0 where
-  pub undamaged : damage ≡ NoDamage
+  pub undamaged : damage ≡ Nothing
   pub fits : FlipFits f
   pub outside : IsOutside listed s f
 
@@ -56,7 +56,7 @@ pub record Does (words : List ℕ) (before : Damage) (s : MachineState) (d : Ass
   pub state : MachineState
   pub damage : Damage
   pub goes : step s ≡ Continues state
-  pub keeps : before ≡ NoDamage → damage ≡ NoDamage
+  pub keeps : before ≡ Nothing → damage ≡ Nothing
   pub meets : Meets words d damage state
 
 -- the run ends with this output and status after at most n instructions

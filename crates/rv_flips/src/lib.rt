@@ -7,6 +7,7 @@ ghost use Rattle.rv_inst.specs.Window.{IsWindowPoint};
 ghost use Rattle.rv_model.specs.Start.{program_image};
 ghost use Rattle.rv_model.specs.Step.{bits64};
 ghost use Rattle.rv_model.specs.Text.{text_base, WordsOf};
+ghost use Rattle.rv_flips.specs.Computing.{Computes};
 ghost use Rattle.rv_flips.specs.Ending.{ending_words, ending_points};
 ghost use Rattle.rv_flips.specs.Survives.{IsListed, Survives};
 ghost use Rattle.rv_flips.specs.Fetching.{Fetches};
@@ -28,4 +29,11 @@ pub fn ending_survives()
 /// whatever flip outside the list comes before, within or after them.
 pub fn three_copies_are_fetched()
     ensures { Fetches }
+{}
+
+/// A law: a word that computes, of rs1 and of rs2 or an immediate, makes of operands that are kept in one way a
+/// result that is kept so, but for code words, wherever it stands and whatever flip outside the list comes before
+/// or at it: of first copies a first copy, of plain versions a plain version.
+pub fn kept_alike_is_computed_alike()
+    ensures { Computes }
 {}

@@ -1,11 +1,19 @@
 -- The operations of RV64I and M give words of 64 bits.
-use Rattle.std.proofs.Common.{◌≡◌, ℕ, zero, suc, ◌+◌, ◌-◌, ◌*◌, ◌/◌, ◌%◌, ◌<◌, ◌≤◌, ◌^◌, ◌==◌, Bool, true, false, cond, refl, arith, bit_and}
+use Rattle.std.proofs.Common.{◌≡◌, ℕ, zero, suc, ◌+◌, ◌-◌, ◌*◌, ◌/◌, ◌%◌, ◌<◌, ◌≤◌, ◌^◌, ◌==◌, Bool, true, false, cond, refl, sym, ◌∙◌, ap, subst, arith, bit_and}
 use Rattle.std.specs.Prelude.{ℤ, pos, negsuc, ◌*ℤ◌, neg_ℤ, nat_lt, unsigned_abs, int_div, int_rem}
 use Rattle.std.specs.Int.{int_shr}
 use Rattle.std.proofs.lemmas.Bool.Decides.{nat_tests}
 use Rattle.std.proofs.lemmas.Int.{unsigned_abs-mul}
 use Rattle.std.proofs.lemmas.Nat.{mul-le, and_le_l, or_lt, xor_lt}
 use Rattle.std.proofs.Math.Nat.{div-le_self, mod-le}
+use Rattle.rv_inst.specs.declared.table.Format.{Format}
+use Rattle.rv_inst.specs.declared.table.Format.TheVariants.{Upper, Jump, Immediate, Branch, Store, Register, Shift, ShiftWord, System}
+use Rattle.rv_inst.specs.declared.table.Operands.{Operands}
+use Rattle.rv_inst.specs.declared.instruction.Form.{Form}
+use Rattle.rv_inst.specs.Table.{row}
+use Rattle.rv_inst.specs.Forms.{kind_of, operands_of}
+use Rattle.rv_inst.specs.Word.{IsBelow, IsSigned, FitsFormat, Fits}
+use Rattle.rv_inst.proofs.EachKind.{trim, operands_of-form_of, form_of-kind_of}
 use Rattle.rv_inst.specs.declared.table.Kind.{Kind}
 use Rattle.rv_inst.specs.declared.table.Kind.TheVariants.{OpAddi, OpSlti, OpSltiu, OpXori, OpOri, OpAndi, OpSlli, OpSrli, OpSrai, OpAdd, OpSub, OpSll, OpSlt, OpSltu, OpXor, OpSrl, OpSra, OpOr, OpAnd, OpAddiw, OpSlliw, OpSrliw, OpSraiw, OpAddw, OpSubw, OpSllw, OpSrlw, OpSraw, OpMul, OpMulh, OpMulhsu, OpMulhu, OpDiv, OpDivu, OpRem, OpRemu, OpMulw, OpDivw, OpDivuw, OpRemw, OpRemuw}
 use Rattle.rv_model.specs.State.{plus64}
@@ -196,3 +204,29 @@ operation_wide OpDivuw a b h k = quotient_unsigned32_wide a b
 operation_wide OpRemw a b h k = remainder32_wide a b
 operation_wide OpRemuw a b h k = remainder_unsigned32_wide a b
 operation_wide _ a b h k = omega arith
+
+-- the bits of an immediate
+below_wide : (limit : ℕ) (imm : ℤ) → limit ≤ 2 ^ 63 → IsBelow limit imm → bits64 imm < 2 ^ 64
+below_wide limit (pos n) le h = omega arith
+below_wide limit (negsuc n) le h = absurd h
+
+signed_wide : (half : ℕ) (imm : ℤ) → half ≤ 2 ^ 63 → IsSigned half imm → bits64 imm < 2 ^ 64
+signed_wide half (pos n) le h = omega arith
+signed_wide half (negsuc n) le h = omega arith
+
+by_format : (format : Format) (o : Operands) → FitsFormat format o → bits64 (trim format o).imm < 2 ^ 64
+by_format Upper o h = below_wide (2 ^ 20) o.imm (omega arith) h.1
+by_format Jump o h = signed_wide (2 ^ 20) o.imm (omega arith) h.1
+by_format Immediate o h = signed_wide (2 ^ 11) o.imm (omega arith) h.2
+by_format Branch o h = signed_wide (2 ^ 12) o.imm (omega arith) h.2
+by_format Store o h = signed_wide (2 ^ 11) o.imm (omega arith) h.2
+by_format Register o h = omega arith
+by_format Shift o h = below_wide 64 o.imm (omega arith) h.2
+by_format ShiftWord o h = below_wide 32 o.imm (omega arith) h.2
+by_format System o h = omega arith
+
+pub immediate_wide : (i : Form) → Fits i → bits64 (operands_of i).imm < 2 ^ 64
+immediate_wide i h =
+    let P : Operands → Type 0 = λ o. bits64 o.imm < 2 ^ 64 in
+    let trimmed : trim ((row (kind_of i)).format) (operands_of i) ≡ operands_of i = sym (operands_of-form_of (kind_of i) (operands_of i)) ∙ ap operands_of (form_of-kind_of i) in
+    subst P trimmed (by_format ((row (kind_of i)).format) (operands_of i) h)
