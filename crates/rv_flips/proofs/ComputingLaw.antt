@@ -1,6 +1,8 @@
 -- Words that compute: operands that are kept in one way give a result that is kept so.
-use Rattle.std.proofs.Common.{◌≡◌, ℕ, ◌+◌, ◌<◌, ◌^◌, inl, inr, List, refl, sym, ◌∙◌, ap, subst, arith}
+use Rattle.std.proofs.Common.{◌≡◌, ◌≢◌, ℕ, ◌+◌, ◌<◌, ◌^◌, inl, inr, List, refl, sym, ◌∙◌, ap, subst, arith}
 use Rattle.rv_inst.specs.declared.instruction.Form.{Form}
+use Rattle.rv_inst.specs.declared.instruction.Form.TheVariants.{ADDI}
+use Rattle.std.specs.Prelude.{ℤ}
 use Rattle.rv_inst.specs.declared.table.Group.{Group}
 use Rattle.rv_inst.specs.declared.table.Group.TheVariants.{Constants, Addresses, Jumps, RegisterJumps, Branches, Loads, Stores, Immediates, Registers, Calls}
 use Rattle.rv_inst.specs.Forms.{kind_of, operands_of}
@@ -21,7 +23,7 @@ use Rattle.rv_flips.proofs.MoveLemmas.{one_word}
 use Rattle.rv_flips.proofs.WordLaws.{does_put, step_here}
 
 -- a right number counts as kept with any tag, but as a code word
-right_kept : (tag : Tag) (key v x : ℕ) (damage : Damage) → (tag ≡ Code → ⊥) → x ≡ v → Holds key (Has tag v) damage x
+right_kept : (tag : Tag) (key v x : ℕ) (damage : Damage) → tag ≢ Code → x ≡ v → Holds key (Has tag v) damage x
 right_kept One key v x First other e = tt
 right_kept Two key v x Second other e = tt
 right_kept Three key v x Third other e = tt
@@ -31,7 +33,7 @@ right_kept Sure key v x Nothing other e = e
 right_kept _ key v x _ other e = e
 
 -- what a register that keeps v holds
-kept_holds : (regs : ℕ → Cell) (tag : Tag) (r v x : ℕ) (damage : Damage) → (tag ≡ Code → ⊥) → Keeps regs tag r v → Holds r (regs r) damage x → Holds r (Has tag v) damage x
+kept_holds : (regs : ℕ → Cell) (tag : Tag) (r v x : ℕ) (damage : Damage) → tag ≢ Code → Keeps regs tag r v → Holds r (regs r) damage x → Holds r (Has tag v) damage x
 kept_holds regs tag r v x damage other (inl is) h = let P : Cell → Type 0 = λ cell. Holds r cell damage x in subst P is h
 kept_holds regs tag r v x damage other (inr is) h =
     let P : Cell → Type 0 = λ cell. Holds r cell damage x in
@@ -42,7 +44,7 @@ both : (f : ℕ → ℕ → ℕ) (v w x y : ℕ) → x ≡ v → y ≡ w → f x
 both f v w x y h k = ap (λ a. f a y) h ∙ ap (f v) k
 
 -- where a damage takes no operand away, the result is right; where it takes one away, it takes the result away
-result_holds : (tag : Tag) (f : ℕ → ℕ → ℕ) (a b d v w x y : ℕ) (damage : Damage) → (tag ≡ Code → ⊥) → Holds a (Has tag v) damage x → Holds b (Has tag w) damage y → Holds d (Has tag (f v w)) (with_error d 0 damage) (f x y)
+result_holds : (tag : Tag) (f : ℕ → ℕ → ℕ) (a b d v w x y : ℕ) (damage : Damage) → tag ≢ Code → Holds a (Has tag v) damage x → Holds b (Has tag w) damage y → Holds d (Has tag (f v w)) (with_error d 0 damage) (f x y)
 result_holds One f a b d v w x y First other h k = tt
 result_holds Two f a b d v w x y Second other h k = tt
 result_holds Three f a b d v w x y Third other h k = tt
@@ -53,7 +55,7 @@ result_holds _ f a b d v w x y (Codes errors) other h k = both f v w x y h k
 result_holds _ f a b d v w x y _ other h k = both f v w x y h k
 
 pub computed_moves : (words : List ℕ) (listed : ℕ → ℕ → Type 0) (c : Assertion) (form : Form) (tag : Tag) (v w : ℕ) →
-    KeepsOperands (group_of (kind_of form)) (operands_of form) c.regs tag v w → (tag ≡ Code → ⊥) → 0 < (operands_of form).rd → c.pc + 4 < 2 ^ 64 → Stands words c.pc form → Covered listed c →
+    KeepsOperands (group_of (kind_of form)) (operands_of form) c.regs tag v w → tag ≢ Code → 0 < (operands_of form).rd → c.pc + 4 < 2 ^ 64 → Stands words c.pc form → Covered listed c →
     Moves words listed c 1 (after_write c (operands_of form).rd (Has tag (operation (kind_of form) v w)) (c.pc + 4))
 computed_moves words listed c form tag v w operands other nonzero room stands covered = one_word words listed c _ covered does
   where
@@ -89,3 +91,12 @@ computed_moves words listed c form tag v w operands other nonzero room stands co
 
     does : (damage : Damage) (s : MachineState) → Meets words c damage s → Does words damage s (after_write c (operands_of form).rd (Has tag (operation (kind_of form) v w)) (c.pc + 4))
     does damage s meets = by_group (group_of (kind_of form)) refl operands damage s meets
+
+-- a constant, by ADDI from x0
+pub constant_moves : (words : List ℕ) (listed : ℕ → ℕ → Type 0) (c : Assertion) (d : ℕ) (imm : ℤ) (tag : Tag) → c.regs 0 ≡ Has Sure 0 → tag ≢ Code → 0 < d → c.pc + 4 < 2 ^ 64 → Stands words c.pc (ADDI d 0 imm) → Covered listed c →
+    Moves words listed c 1 (after_write c d (Has tag (bits64 imm)) (c.pc + 4))
+constant_moves words listed c d imm tag x0 other nonzero room stands covered =
+    let small : bits64 imm < 2 ^ 64 = immediate_wide (ADDI d 0 imm) stands.is_word.0 in
+    let value : plus64 0 (bits64 imm) ≡ bits64 imm = omega arith in
+    let P : ℕ → Type 0 = λ v. Moves words listed c 1 (after_write c d (Has tag v) (c.pc + 4)) in
+    subst P value (computed_moves words listed c (ADDI d 0 imm) tag 0 (bits64 imm) (inr x0, refl) other nonzero room stands covered)

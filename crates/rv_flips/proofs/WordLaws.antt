@@ -6,11 +6,11 @@ use Rattle.rv_inst.specs.declared.instruction.Form.{Form}
 use Rattle.rv_inst.specs.declared.instruction.Form.TheVariants.{LUI, ADDI, ECALL}
 use Rattle.rv_inst.specs.Word.{Fits}
 use Rattle.rv_model.specs.State.{MachineState, register, set_register, plus64, next}
-use Rattle.rv_model.specs.Step.{Ends, bits64, upper_value, put, act, step}
+use Rattle.rv_model.specs.Step.{Ends, upper_value, put, act, step}
 use Rattle.rv_model.specs.Text.{Stands}
 use Rattle.rv_model.proofs.RegisterLemmas.{register-set_same, register-set_other, length-set_register, bound-set_register, pc-set_register, segments-set_register, input-set_register, out-set_register}
 use Rattle.rv_model.proofs.TextLemmas.{step-stands}
-use Rattle.rv_model.proofs.ActLemmas.{act-LUI, act-ADDI, act-ECALL, called-ends, bits64_small, upper_value_small}
+use Rattle.rv_model.proofs.ActLemmas.{act-LUI, act-ADDI, act-ECALL, called-ends, upper_value_small}
 use Rattle.rv_flips.specs.Cells.{Damage, Nothing, First, Second, Third, Plains, Codes, Tag, Sure, One, Two, Three, Plain, Code, Cell, Free, Has, Holds, with_error, error_of}
 use Rattle.rv_flips.specs.Assertion.{Assertion, Meets, with_register, after_write}
 use Rattle.rv_flips.specs.Moves.{Covered, Does, Moves, Finishes}
@@ -78,20 +78,6 @@ does_put words c damage s d v e p cell meets nonzero small wide holds at goes =
 -- the step of a state that meets an assertion is the act of the instruction at its pc
 pub step_here : (words : List ℕ) (c : Assertion) (damage : Damage) (s : MachineState) (form : Form) → Meets words c damage s → Stands words c.pc form → step s ≡ act form s
 step_here words c damage s form meets stands = step-stands words meets.data_bytes s c.pc form meets.pc meets.segments stands
-
--- a constant by ADDI from x0, kept by any tag
-pub constant_moves : (words : List ℕ) (listed : ℕ → ℕ → Type 0) (c : Assertion) (d p : ℕ) (imm : ℤ) (tag : Tag) → c.regs 0 ≡ Has Sure 0 → 0 < d → plus64 c.pc 4 ≡ p → Stands words c.pc (ADDI d 0 imm) → Covered listed c → Moves words listed c 1 (after_write c d (Has tag (bits64 imm)) p)
-constant_moves words listed c d p imm tag x0 nonzero at stands covered = one_word words listed c _ covered does
-  where
-    does : (damage : Damage) (s : MachineState) → Meets words c damage s → Does words damage s (after_write c d (Has tag (bits64 imm)) p)
-    does damage s meets =
-        let fits : Fits (ADDI d 0 imm) = stands.is_word.0 in
-        let small : bits64 imm < 2 ^ 64 = bits64_small (2 ^ 11) imm (omega arith) fits.2 in
-        let P : Cell → Type 0 = λ cell. Holds 0 cell damage (register s 0) in
-        let none : register s 0 ≡ 0 = holds_sure 0 0 (register s 0) damage (subst P x0 (meets.regs 0)) in
-        let value : plus64 (register s 0) (bits64 imm) ≡ bits64 imm = omega arith in
-        let goes : step s ≡ put d (bits64 imm) s = step_here words c damage s (ADDI d 0 imm) meets stands ∙ act-ADDI d 0 imm s ∙ ap (λ v. put d v s) value in
-        does_put words c damage s d (bits64 imm) 0 p (Has tag (bits64 imm)) meets nonzero fits.0 small (right_holds tag d (bits64 imm) (bits64 imm) damage refl small) at goes
 
 -- a constant by LUI
 pub upper_moves : (words : List ℕ) (listed : ℕ → ℕ → Type 0) (c : Assertion) (d p : ℕ) (imm : ℤ) (tag : Tag) → 0 < d → plus64 c.pc 4 ≡ p → Stands words c.pc (LUI d imm) → Covered listed c → Moves words listed c 1 (after_write c d (Has tag (upper_value imm)) p)

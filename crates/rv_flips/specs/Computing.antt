@@ -1,5 +1,5 @@
 -- Words that compute: operands that are kept in one way give a result that is kept so.
-use Rattle.std.specs.Prelude.{◌≡◌, ◌⊎◌, ◌+◌, ◌<◌, ◌^◌, ℕ, List}
+use Rattle.std.specs.Prelude.{◌≡◌, ◌≢◌, ◌⊎◌, ◌+◌, ◌<◌, ◌^◌, ℕ, List}
 use Rattle.rv_inst.specs.declared.instruction.Form.{Form}
 use Rattle.rv_inst.specs.declared.table.Group.{Group}
 use Rattle.rv_inst.specs.declared.table.Group.TheVariants.{Immediates, Registers}
@@ -27,7 +27,7 @@ KeepsOperands _ o regs tag v w = ⊥
 -- its destination, if it isn't x0, keeps what it computes with this tag, after one instruction and whatever flip outside the list comes
 abbrev pub Computes : Type 0
 Computes = (words : List ℕ) (points : List (ℕ × ℕ)) (c : Assertion) (form : Form) (tag : Tag) (v w : ℕ)
-    → KeepsOperands (group_of (kind_of form)) (operands_of form) c.regs tag v w → (tag ≡ Code → ⊥)
+    → KeepsOperands (group_of (kind_of form)) (operands_of form) c.regs tag v w → tag ≢ Code
     → 0 < (operands_of form).rd → c.pc + 4 < 2 ^ 64 → Stands words c.pc form → Covered (IsListed points) c
     → Moves words (IsListed points) c 1
     (after_write c (operands_of form).rd (Has tag (operation (kind_of form) v w)) (c.pc + 4))

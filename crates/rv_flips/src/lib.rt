@@ -31,9 +31,9 @@ pub fn three_copies_are_fetched()
     ensures { Fetches }
 {}
 
-/// A law: a word that computes, of rs1 and of rs2 or an immediate, makes of operands that are kept in one way a
-/// result that is kept so, but for code words, wherever it stands and whatever flip outside the list comes before
-/// or at it: of first copies a first copy, of plain versions a plain version.
-pub fn kept_alike_is_computed_alike()
+/// A law: a word that computes, from two registers or from one and an immediate, makes of operands with one tag a
+/// result with that tag, as of first copies a first copy, wherever it stands and whatever flip outside the list
+/// comes before it. Of code words it says nothing.
+pub fn computing_keeps_the_tag()
     ensures { Computes }
 {}
