@@ -13,7 +13,7 @@ use Rattle.point_list.specs.declared.list.Point.{Point}
 abbrev Lacks : ℕ → List ℕ → Type 0
 Lacks c xs = AllByRecursion (λ x. x ≢ c) xs
 
--- what stands before the first c, and behind it, is determined
+-- what stands before the first c, and after it, is determined
 cut_at : (c : ℕ) (xs ys r s : List ℕ) → Lacks c xs → Lacks c ys → xs ++ c ∷ r ≡ ys ++ c ∷ s → (xs ≡ ys) × (r ≡ s)
 cut_at c [] [] r s p q e = (refl, cc)
 cut_at c [] (y ∷ ys) r s p q e = absurd (q.0 (cc))

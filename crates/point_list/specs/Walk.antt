@@ -5,7 +5,7 @@ use Rattle.rv_inst.specs.Registers.{reads}
 use Rattle.rv_inst.specs.Window.{quiet_next, begins, may_use, passes, has_window}
 use Rattle.point_list.specs.declared.walk.Value.{Value}
 
--- the index of the word at an address, in a text of so many words from the base on
+-- the index of the word at an address, in a text of so many words that begins at the base
 abbrev pub index_of : ℕ → ℕ → ℕ → Option ℕ
 index_of base count address =
     if nat_le base address && ((address - base) % 4 == 0 && nat_lt ((address - base) / 4) count) then Some ((address - base) / 4) else None
@@ -48,6 +48,7 @@ begun_by i r None text base k = false
 begun_by i r (Some first) text base k =
     begins r first && holds_there (λ j. on_way text base (record { reg = r; first = first }) 31 j k) (next_index text base i)
 
+-- the same of word i, whatever it says
 abbrev pub begun_at : List (Option Form) → ℕ → ℕ → ℕ → ℕ → Bool
 begun_at text base i k r = begun_by i r (instruction_at text i) text base k
 

@@ -15,14 +15,14 @@ use crate::walk::{index_of, mark_windows};
 use rv_inst::{Rv, decode};
 use std::alloc::{AllocError, Global};
 
-/// What each word of a text says.
+/// Returns what each word of a text says.
 fn decoded(alloc: Global, words: &[u32]) -> Result<Vec<Option<Rv>>, AllocError>
     ensures { IfOk result (λ text. text.items ≡ map form_at words.now) }
 {
     words.iter().map(|word| decode(*word)).collect(alloc)
 }
 
-/// The window points of a text, as marks.
+/// Returns the window points of a text, as marks.
 fn window_marks(alloc: Global, words: &[u32], base: u64) -> Result<Vec<u32>, AllocError>
     requires { base + 4 * length words.now < 2 ^ 64 }
     ensures len { IfOk result (λ marks. length marks.items ≡ length words.now) }
@@ -47,7 +47,7 @@ fn mark_asked(window: &[u32], base: u64, point: Point, marks: &mut [u32])
     }
 }
 
-/// The asked points among the window points, as marks.
+/// Returns the asked points among the window points, as marks.
 fn asked_marks(
     alloc: Global,
     window: &[u32],
@@ -64,8 +64,8 @@ fn asked_marks(
     Ok(marks)
 }
 
-/// Those of the asked points that are window points of a text whose first word is at address `base`, by address
-/// and then register, each once.
+/// Returns those of the asked points that are window points of a text whose first word is at address `base`, by
+/// address and then register, each once.
 pub fn points(
     alloc: Global,
     words: &[u32],

@@ -1,126 +1,61 @@
 //! What an instruction does with the value in a register, as far as a window looks at it.
 
 ghost use Rattle.std.specs.Prelude.{◌≡◌};
-ghost use Rattle.rv_inst.specs.Window.{opcode_of, is_load, is_store, is_branch, is_register_jump, is_ecall, is_number, compares, checks, is_source, begins, copies, may_use, passes, is_operand_register, has_window};
+ghost use Rattle.rv_inst.specs.Window.{is_load, is_store, is_branch, is_register_jump, is_ecall, is_number, compares, checks, is_source, begins, copies, may_use, passes, is_operand_register, has_window};
 ghost use Rattle.point_list.specs.Walk.{uses};
 
-use rv_inst::{Form, Rv, reads, writes};
+use rv_inst::{Form, Group, Rv, group_of, kind_of, reads, writes};
 
-/// The major opcode.
-fn opcode_of(form: Form) -> u8
-    ensures { result ≡ opcode_of form }
-{
-    match form {
-        Form::LUI(..) => 0b0110111,
-        Form::AUIPC(..) => 0b0010111,
-        Form::JAL(..) => 0b1101111,
-        Form::JALR(..) => 0b1100111,
-        Form::BEQ(..) => 0b1100011,
-        Form::BNE(..) => 0b1100011,
-        Form::BLT(..) => 0b1100011,
-        Form::BGE(..) => 0b1100011,
-        Form::BLTU(..) => 0b1100011,
-        Form::BGEU(..) => 0b1100011,
-        Form::LB(..) => 0b0000011,
-        Form::LH(..) => 0b0000011,
-        Form::LW(..) => 0b0000011,
-        Form::LD(..) => 0b0000011,
-        Form::LBU(..) => 0b0000011,
-        Form::LHU(..) => 0b0000011,
-        Form::LWU(..) => 0b0000011,
-        Form::SB(..) => 0b0100011,
-        Form::SH(..) => 0b0100011,
-        Form::SW(..) => 0b0100011,
-        Form::SD(..) => 0b0100011,
-        Form::ADDI(..) => 0b0010011,
-        Form::SLTI(..) => 0b0010011,
-        Form::SLTIU(..) => 0b0010011,
-        Form::XORI(..) => 0b0010011,
-        Form::ORI(..) => 0b0010011,
-        Form::ANDI(..) => 0b0010011,
-        Form::SLLI(..) => 0b0010011,
-        Form::SRLI(..) => 0b0010011,
-        Form::SRAI(..) => 0b0010011,
-        Form::ADD(..) => 0b0110011,
-        Form::SLL(..) => 0b0110011,
-        Form::SLT(..) => 0b0110011,
-        Form::SLTU(..) => 0b0110011,
-        Form::XOR(..) => 0b0110011,
-        Form::SRL(..) => 0b0110011,
-        Form::OR(..) => 0b0110011,
-        Form::AND(..) => 0b0110011,
-        Form::SUB(..) => 0b0110011,
-        Form::SRA(..) => 0b0110011,
-        Form::MUL(..) => 0b0110011,
-        Form::MULH(..) => 0b0110011,
-        Form::MULHSU(..) => 0b0110011,
-        Form::MULHU(..) => 0b0110011,
-        Form::DIV(..) => 0b0110011,
-        Form::DIVU(..) => 0b0110011,
-        Form::REM(..) => 0b0110011,
-        Form::REMU(..) => 0b0110011,
-        Form::ADDIW(..) => 0b0011011,
-        Form::SLLIW(..) => 0b0011011,
-        Form::SRLIW(..) => 0b0011011,
-        Form::SRAIW(..) => 0b0011011,
-        Form::ADDW(..) => 0b0111011,
-        Form::SLLW(..) => 0b0111011,
-        Form::SRLW(..) => 0b0111011,
-        Form::SUBW(..) => 0b0111011,
-        Form::SRAW(..) => 0b0111011,
-        Form::MULW(..) => 0b0111011,
-        Form::DIVW(..) => 0b0111011,
-        Form::DIVUW(..) => 0b0111011,
-        Form::REMW(..) => 0b0111011,
-        Form::REMUW(..) => 0b0111011,
-        Form::ECALL => 0b1110011,
-    }
-}
-
+/// Returns whether the instruction loads.
 fn is_load(form: Form) -> bool
     ensures { result ≡ is_load form }
 {
-    opcode_of(form) == 0b0000011
+    matches!(group_of(kind_of(form)), Group::Loads)
 }
 
+/// Returns whether the instruction stores.
 fn is_store(form: Form) -> bool
     ensures { result ≡ is_store form }
 {
-    opcode_of(form) == 0b0100011
+    matches!(group_of(kind_of(form)), Group::Stores)
 }
 
+/// Returns whether the instruction branches.
 fn is_branch(form: Form) -> bool
     ensures { result ≡ is_branch form }
 {
-    opcode_of(form) == 0b1100011
+    matches!(group_of(kind_of(form)), Group::Branches)
 }
 
+/// Returns whether the instruction jumps to where a register points.
 fn is_register_jump(form: Form) -> bool
     ensures { result ≡ is_register_jump form }
 {
-    opcode_of(form) == 0b1100111
+    matches!(group_of(kind_of(form)), Group::RegisterJumps)
 }
 
+/// Returns whether the instruction calls the environment.
 fn is_ecall(form: Form) -> bool
     ensures { result ≡ is_ecall form }
 {
-    opcode_of(form) == 0b1110011
+    matches!(group_of(kind_of(form)), Group::Calls)
 }
 
+/// Returns whether the value is this number.
 fn is_number(number: u8, value: i32) -> bool
     ensures { result ≡ is_number number value }
 {
     value == i32::from(number)
 }
 
-/// Whether `reg` is compared with another register that isn't x0.
+/// Returns whether `reg` is compared with another register that isn't x0.
 fn compares(reg: u8, a: u8, b: u8) -> bool
     ensures { result ≡ compares reg a b }
 {
     a == reg && (0 < b && b != reg) || b == reg && (0 < a && a != reg)
 }
 
-/// Whether the instruction is a check of `reg`.
+/// Returns whether the instruction is a check of `reg`.
 fn checks(reg: u8, form: Form) -> bool
     ensures { result ≡ checks reg form }
 {
@@ -131,7 +66,7 @@ fn checks(reg: u8, form: Form) -> bool
     }
 }
 
-/// Whether what it writes comes from memory, from constants or from outside.
+/// Returns whether what it writes comes from memory, from constants or from outside.
 fn is_source(form: Form) -> bool
     ensures { result ≡ is_source form }
 {
@@ -144,7 +79,7 @@ fn is_source(form: Form) -> bool
     }
 }
 
-/// Whether the instruction brings a value into `reg`, or checks the one there.
+/// Returns whether the instruction brings a value into `reg`, or checks the one there.
 pub fn begins(reg: u8, instruction: &Rv) -> bool
     ensures { result ≡ begins reg instruction.now }
 {
@@ -152,7 +87,7 @@ pub fn begins(reg: u8, instruction: &Rv) -> bool
     is_source(form) && writes(instruction, reg) || checks(reg, form)
 }
 
-/// Whether the instruction copies `reg`.
+/// Returns whether the instruction copies `reg`.
 fn copies(reg: u8, form: Form) -> bool
     ensures { result ≡ copies reg form }
 {
@@ -162,7 +97,7 @@ fn copies(reg: u8, form: Form) -> bool
     }
 }
 
-/// Whether the instruction may use what `reg` holds, brought there by `first`.
+/// Returns whether the instruction may use what `reg` holds, brought there by `first`.
 fn may_use(reg: u8, first: Form, form: Form) -> bool
     ensures { result ≡ may_use reg first form }
 {
@@ -174,7 +109,7 @@ fn may_use(reg: u8, first: Form, form: Form) -> bool
         || copies(reg, form) && is_load(first)
 }
 
-/// Whether a word lets the value in `reg` pass, brought there by `first`.
+/// Returns whether a word lets the value in `reg` pass, brought there by `first`.
 pub fn passes(reg: u8, first: Form, instruction: Option<Rv>) -> bool
     ensures { result ≡ passes reg first instruction }
 {
@@ -189,13 +124,14 @@ pub fn passes(reg: u8, first: Form, instruction: Option<Rv>) -> bool
     }
 }
 
+/// Returns whether `reg` holds operands between their check and their use.
 fn is_operand_register(reg: u8) -> bool
     ensures { result ≡ is_operand_register reg }
 {
     matches!(reg, 1 | 2 | 5 | 6 | 7 | 28 | 29 | 30 | 31)
 }
 
-/// Whether `reg` can have a window between these two instructions.
+/// Returns whether `reg` can have a window between these two instructions.
 fn has_window(reg: u8, first: Form, last: Form) -> bool
     ensures { result ≡ has_window reg first last }
 {
@@ -204,7 +140,7 @@ fn has_window(reg: u8, first: Form, last: Form) -> bool
         || matches!(reg, 11 | 12 | 17) && is_ecall(last)
 }
 
-/// Whether a word uses the value in `reg`, brought there by `first`, so that it ends a window.
+/// Returns whether a word uses the value in `reg`, brought there by `first`, so that it ends a window.
 pub fn uses(reg: u8, first: Form, instruction: Option<Rv>) -> bool
     ensures { result ≡ uses reg first instruction }
 {

@@ -14,7 +14,7 @@ pub struct Point {
     pub reg: u8,
 }
 
-/// Whether no point of the list has this address and this register.
+/// Returns whether no point of the list has this address and this register.
 pub fn outside(points: &[Point], pc: u64, reg: u8) -> bool
     requires { AreSorted points.now }
     ensures { IsTrue result ↔ (¬ Contains points.now (record { pc = pc; reg = reg })) }
@@ -30,7 +30,7 @@ fn push_line(text: &mut String, point: Point) -> Result<(), AllocError>
     writeln!(text, "{pc:08x} x{reg}")
 }
 
-/// The text of the list: a line with the number of points, and a line a point.
+/// Returns the text of the list: a line with the number of points, and a line a point.
 pub fn points_text(alloc: Global, points: &[Point]) -> Result<Vec<u8>, AllocError>
     ensures { IfOk result (λ text. text.items ≡ points_text points.now) }
 {
@@ -41,7 +41,7 @@ pub fn points_text(alloc: Global, points: &[Point]) -> Result<Vec<u8>, AllocErro
     Ok(text.into_bytes())
 }
 
-/// The text of a list determines the list.
+/// States that the text of a list determines the list.
 pub fn text_determines_points()
     ensures { (ps qs : List Point) → AllByRecursion IsPoint ps → AllByRecursion IsPoint qs → length ps < 2 ^ 64 → length qs < 2 ^ 64 → points_text ps ≡ points_text qs → ps ≡ qs }
 {}

@@ -8,7 +8,7 @@ ghost use Rattle.point_list.specs.declared.list.Point.{Point};
 use crate::list::Point;
 use std::alloc::{AllocError, Global};
 
-/// Whether register `reg` of word `k` is marked.
+/// Returns whether register `reg` of word `k` is marked.
 pub fn is_marked(marks: &[u32], k: usize, reg: u8) -> bool
     requires within { k < length marks.now }
     requires register { reg < 32 }
@@ -38,7 +38,7 @@ fn push_points(points: &mut Vec<Point>, pc: u64, mark: u32) -> Result<(), AllocE
     Ok(())
 }
 
-/// The points of the marks of a text that begins at `base`, by address and then register.
+/// Returns the points of the marks of a text that begins at `base`, by address and then register.
 pub fn marked_points(alloc: Global, base: u64, marks: &[u32]) -> Result<Vec<Point>, AllocError>
     requires { base + 4 * length marks.now < 2 ^ 64 }
     ensures sorted { IfOk result (λ points. AreSorted points.items) }

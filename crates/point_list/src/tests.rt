@@ -212,7 +212,7 @@ fn all_registers(alloc: Global, words: &[u32], base: u64) -> Result<Vec<Point>, 
             })?;
         }
     }
-    // A point between two words, one before the text, one behind it, and one again.
+    // A point between two words, one before the text, one after it, and one again.
     asked.push(Point {
         pc: base.wrapping_add(2),
         reg: 5,
@@ -311,7 +311,7 @@ const TABLE: [(&[u32], &[(u64, u8)]); 19] = [
         &[(1, 11), (2, 11), (2, 17)],
     ),
     (&[0x0004b403, 0x0084b023], &[]),
-    // The path goes on behind a call.
+    // The path goes on after a call.
     (&[0x05d00893, 0x00000073, 0x00a4b023], &[(1, 17), (2, 10)]),
 ];
 

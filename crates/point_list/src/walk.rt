@@ -16,7 +16,7 @@ pub struct Value {
     pub first: Form,
 }
 
-/// The index of the word at an address, in a text of `count` words from `base` on.
+/// Returns the index of the word at an address, in a text of `count` words that begins at `base`.
 pub fn index_of(base: u64, count: usize, address: u64) -> Option<usize>
     ensures { result ≡ index_of base count address }
 {
@@ -27,14 +27,14 @@ pub fn index_of(base: u64, count: usize, address: u64) -> Option<usize>
     }
 }
 
-/// The address at this offset from another.
+/// Returns the address at this offset from another.
 fn offset_from(address: u64, offset: i32) -> u64
     ensures { result ≡ offset_from address offset }
 {
     address.wrapping_add(i64::from(offset).cast_unsigned())
 }
 
-/// The address that the quiet path goes on to.
+/// Returns the address that the quiet path goes on to.
 fn quiet_next(address: u64, instruction: Option<Rv>) -> u64
     requires { address + 4 < 2 ^ 64 }
     ensures { result ≡ quiet_next (record { address = address; instruction = instruction }) }
@@ -49,7 +49,7 @@ fn quiet_next(address: u64, instruction: Option<Rv>) -> u64
     }
 }
 
-/// The index of the word that the quiet path goes on to.
+/// Returns the index of the word that the quiet path goes on to.
 fn next_index(text: &[Option<Rv>], base: u64, k: usize) -> Option<usize>
     requires room { base + 4 * length text.now < 2 ^ 64 }
     requires within { k < length text.now }
@@ -60,7 +60,7 @@ fn next_index(text: &[Option<Rv>], base: u64, k: usize) -> Option<usize>
 }
 
 /// Marks the register at each word on the way from word `start` to a use of the value, by at most `words` words
-/// with the use, and answers whether there is one.
+/// with the use, and returns whether there is one.
 #[cycle(walk)]
 fn mark_way(
     text: &[Option<Rv>],
@@ -116,7 +116,7 @@ fn mark_later(
     }
 }
 
-/// The registers, at most two, that an instruction brings a value into or checks.
+/// Returns the registers, at most two, that an instruction brings a value into or checks.
 fn begun_registers(form: Form) -> (u8, u8)
     ensures { (r : ℕ) → IsTrue (begins r form) → (r ≡ result.0) ⊎ (r ≡ result.1) }
 {

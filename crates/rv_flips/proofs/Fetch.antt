@@ -12,49 +12,49 @@ use Rattle.rv_model.specs.Text.{Stands, StandsAll}
 use Rattle.rv_model.proofs.ActLemmas.{act-ADDI, act-BEQ}
 use Rattle.rv_model.proofs.RunLemmas.{run-continues, more-more}
 use Rattle.rv_model.proofs.TextLemmas.{step-stands}
-use Rattle.rv_flips.specs.Cells.{Case, Right, First, Second, Third, Sure, One, Two, Three, Cell, Has, Holds, with_error}
-use Rattle.rv_flips.specs.Points.{Point, Sat, with_register, writes}
+use Rattle.rv_flips.specs.Cells.{Damage, Nothing, First, Second, Third, Sure, One, Two, Three, Cell, Has, Holds, with_error}
+use Rattle.rv_flips.specs.Assertion.{Assertion, Meets, with_register, after_write}
 use Rattle.rv_flips.specs.Moves.{Covered, Ready, Arrives, Moves}
 use Rattle.rv_flips.proofs.CellLemmas.{sure_holds, with_register-same, with_register-other}
 use Rattle.rv_flips.proofs.FlipLemmas.{ready}
 use Rattle.rv_flips.proofs.MoveLemmas.{moves_then, moves_weaker, settled}
-use Rattle.rv_flips.proofs.WordLaws.{put_sat, copy_moves, cell_sat}
+use Rattle.rv_flips.proofs.WordLaws.{meets_put, copy_moves, meets_cell}
 use Rattle.rv_flips.specs.Known.{Sures, AllListed}
 use Rattle.rv_flips.specs.Fetching.{fetch_words, IsTriple}
 use Rattle.rv_flips.proofs.KnownRegisters.{covered, sures_other}
 
--- the state at another address
-pub jump_sat : (words : List ℕ) (c : Point) (p : ℕ) (i : Case) (s : MachineState) → Sat words c i s → Sat words (record c { pc = p }) i (jump s p)
-jump_sat words c p i s sat =
-    record { place = sat.place; pc = refl; regs = sat.regs; wide = sat.wide; count = sat.count; segments = sat.segments; size = sat.size; slots = sat.slots; regions = sat.regions; input = sat.input; out = sat.out }
+-- the state that goes on at another address
+pub meets_jump : (words : List ℕ) (c : Assertion) (p : ℕ) (damage : Damage) (s : MachineState) → Meets words c damage s → Meets words (record c { pc = p }) damage (jump s p)
+meets_jump words c p damage s meets =
+    record { data_bytes = meets.data_bytes; pc = refl; regs = meets.regs; wide = meets.wide; count = meets.count; segments = meets.segments; size = meets.size; slots = meets.slots; regions = meets.regions; input = meets.input; out = meets.out }
 
 -- where a first and a second copy are equal, the first is right
-agree : (d b v x y : ℕ) (i : Case) → Holds d (Has One v) i x → Holds b (Has Two v) i y → x ≡ y → Holds d (Has Sure v) i x
+agree : (d b v x y : ℕ) (damage : Damage) → Holds d (Has One v) damage x → Holds b (Has Two v) damage y → x ≡ y → Holds d (Has Sure v) damage x
 agree d b v x y First h k e = e ∙ k
 agree d b v x y Second h k e = h
 agree d b v x y _ h k e = h
 
--- where they differ, something is wrong, and a third copy is right
-differ : (d b t v x y z : ℕ) (i : Case) → Holds d (Has One v) i x → Holds b (Has Two v) i y → (x ≡ y → ⊥) → Holds t (Has Three v) i z → (z ≡ v) × (i ≡ Right → ⊥)
+-- where they differ, something is damaged, and a third copy is right
+differ : (d b t v x y z : ℕ) (damage : Damage) → Holds d (Has One v) damage x → Holds b (Has Two v) damage y → (x ≡ y → ⊥) → Holds t (Has Three v) damage z → (z ≡ v) × (damage ≡ Nothing → ⊥)
 differ d b t v x y z First h k ne l = (l, λ e. cc)
 differ d b t v x y z Second h k ne l = (l, λ e. cc)
 differ d b t v x y z Third h k ne l = absurd (ne (h ∙ sym k))
-differ d b t v x y z Right h k ne l = absurd (ne (h ∙ sym k))
+differ d b t v x y z Nothing h k ne l = absurd (ne (h ∙ sym k))
 differ d b t v x y z _ h k ne l = absurd (ne (h ∙ sym k))
 
 -- the branch is taken: the two copies are equal
-taken : (words : List ℕ) (listed : ℕ → ℕ → Type 0) (c : Point) (d b t v : ℕ) (s : MachineState) (f : Option Flip) → c.regs d ≡ Has One v → c.regs b ≡ Has Two v → c.pc + 8 < 2 ^ 64 →
-    Stands words c.pc (BEQ d b (pos 8)) → (r : Ready words listed c s f) → register r.now d ≡ register r.now b → Arrives words listed (writes c d (Has Sure v) (c.pc + 8)) 2 s f
+taken : (words : List ℕ) (listed : ℕ → ℕ → Type 0) (c : Assertion) (d b t v : ℕ) (s : MachineState) (f : Option Flip) → c.regs d ≡ Has One v → c.regs b ≡ Has Two v → c.pc + 8 < 2 ^ 64 →
+    Stands words c.pc (BEQ d b (pos 8)) → (r : Ready words listed c s f) → register r.now d ≡ register r.now b → Arrives words listed (after_write c d (Has Sure v) (c.pc + 8)) 2 s f
 taken words listed c d b t v s f one two room beq r same =
     let now = r.now in
-    let P : Cell → Type 0 = λ cell. Holds d cell r.case (register r.now d) in
-    let Q : Cell → Type 0 = λ cell. Holds b cell r.case (register r.now b) in
-    let right : Holds d (Has Sure v) r.case (register r.now d) = agree d b v (register r.now d) (register r.now b) r.case (subst P one (r.sat.regs d)) (subst Q two (r.sat.regs b)) same in
+    let P : Cell → Type 0 = λ cell. Holds d cell r.damage (register r.now d) in
+    let Q : Cell → Type 0 = λ cell. Holds b cell r.damage (register r.now b) in
+    let right : Holds d (Has Sure v) r.damage (register r.now d) = agree d b v (register r.now d) (register r.now b) r.damage (subst P one (r.meets.regs d)) (subst Q two (r.meets.regs b)) same in
     let test : (register r.now d == register r.now b) ≡ true = grind (arith, nat_tests) in
-    let pc : r.now.pc ≡ c.pc = r.sat.pc in
+    let pc : r.now.pc ≡ c.pc = r.meets.pc in
     let there : plus64 r.now.pc 8 ≡ c.pc + 8 = omega arith in
     let goes : step r.now ≡ Continues (jump r.now (c.pc + 8)) =
-    step-stands words r.sat.place r.now c.pc (BEQ d b (pos 8)) r.sat.pc r.sat.segments beq ∙ act-BEQ d b (pos 8) r.now
+    step-stands words r.meets.data_bytes r.now c.pc (BEQ d b (pos 8)) r.meets.pc r.meets.segments beq ∙ act-BEQ d b (pos 8) r.now
     ∙ ap (λ q. Continues (branched q (pos 8) r.now)) test ∙ ap (λ q. Continues (jump r.now q)) there in
     record {
       steps = 1;
@@ -62,8 +62,8 @@ taken words listed c d b t v s f one two room beq r same =
       flip = r.rest;
       few = omega arith;
       good = record {
-        case = r.case;
-        sat = jump_sat words (record c { regs = with_register c.regs d (Has Sure v) }) (c.pc + 8) r.case r.now (cell_sat words c d (Has Sure v) r.case r.now r.sat right);
+        damage = r.damage;
+        meets = meets_jump words (record c { regs = with_register c.regs d (Has Sure v) }) (c.pc + 8) r.damage r.now (meets_cell words c d (Has Sure v) r.damage r.now r.meets right);
         pending = r.pending (jump r.now (c.pc + 8)) goes;
       };
       goes = λ k.
@@ -71,26 +71,26 @@ taken words listed c d b t v s f one two room beq r same =
           ap (λ n. run n s f) first ∙ r.goes k ∙ ap (λ (x : StepResult). after x c.out (λ t. run k t r.rest)) goes;
     }
 
--- it isn't: one of the two copies is wrong, so no flip is to come, and the third is right
-not_taken : (words : List ℕ) (listed : ℕ → ℕ → Type 0) (c : Point) (d b t v : ℕ) (s : MachineState) (f : Option Flip) → c.regs d ≡ Has One v → c.regs b ≡ Has Two v → c.regs t ≡ Has Three v → 0 < d → c.pc + 8 < 2 ^ 64 →
-    Stands words c.pc (BEQ d b (pos 8)) → Stands words (c.pc + 4) (ADDI d t (pos 0)) → (r : Ready words listed c s f) → (register r.now d ≡ register r.now b → ⊥) → Arrives words listed (writes c d (Has Sure v) (c.pc + 8)) 2 s f
+-- the branch isn't taken: one of the two copies is wrong, so no flip is to come, and the third is right
+not_taken : (words : List ℕ) (listed : ℕ → ℕ → Type 0) (c : Assertion) (d b t v : ℕ) (s : MachineState) (f : Option Flip) → c.regs d ≡ Has One v → c.regs b ≡ Has Two v → c.regs t ≡ Has Three v → 0 < d → c.pc + 8 < 2 ^ 64 →
+    Stands words c.pc (BEQ d b (pos 8)) → Stands words (c.pc + 4) (ADDI d t (pos 0)) → (r : Ready words listed c s f) → (register r.now d ≡ register r.now b → ⊥) → Arrives words listed (after_write c d (Has Sure v) (c.pc + 8)) 2 s f
 not_taken words listed c d b t v s f one two three nonzero room beq addi r other =
-    let P : Cell → Type 0 = λ cell. Holds d cell r.case (register r.now d) in
-    let Q : Cell → Type 0 = λ cell. Holds b cell r.case (register r.now b) in
-    let R : Cell → Type 0 = λ cell. Holds t cell r.case (register r.now t) in
-    let both = differ d b t v (register r.now d) (register r.now b) (register r.now t) r.case (subst P one (r.sat.regs d)) (subst Q two (r.sat.regs b)) other (subst R three (r.sat.regs t)) in
+    let P : Cell → Type 0 = λ cell. Holds d cell r.damage (register r.now d) in
+    let Q : Cell → Type 0 = λ cell. Holds b cell r.damage (register r.now b) in
+    let R : Cell → Type 0 = λ cell. Holds t cell r.damage (register r.now t) in
+    let both = differ d b t v (register r.now d) (register r.now b) (register r.now t) r.damage (subst P one (r.meets.regs d)) (subst Q two (r.meets.regs b)) other (subst R three (r.meets.regs t)) in
     let test : (register r.now d == register r.now b) ≡ false = grind (arith, nat_tests) in
-    let pc : r.now.pc ≡ c.pc = r.sat.pc in
+    let pc : r.now.pc ≡ c.pc = r.meets.pc in
     let there : plus64 r.now.pc 4 ≡ c.pc + 4 = omega arith in
     let first_goes : step r.now ≡ Continues (jump r.now (c.pc + 4)) =
-    step-stands words r.sat.place r.now c.pc (BEQ d b (pos 8)) r.sat.pc r.sat.segments beq ∙ act-BEQ d b (pos 8) r.now
+    step-stands words r.meets.data_bytes r.now c.pc (BEQ d b (pos 8)) r.meets.pc r.meets.segments beq ∙ act-BEQ d b (pos 8) r.now
     ∙ ap (λ q. Continues (branched q (pos 8) r.now)) test ∙ ap (λ q. Continues (jump r.now q)) there in
-    let none : r.rest ≡ None = settled listed r.case (jump r.now (c.pc + 4)) r.rest both.1 (r.pending (jump r.now (c.pc + 4)) first_goes) in
-    let sat1 = jump_sat words c (c.pc + 4) r.case r.now r.sat in
-    let wide : register r.now t < 2 ^ 64 = r.sat.wide t in
+    let none : r.rest ≡ None = settled listed r.damage (jump r.now (c.pc + 4)) r.rest both.1 (r.pending (jump r.now (c.pc + 4)) first_goes) in
+    let meets1 = meets_jump words c (c.pc + 4) r.damage r.now r.meets in
+    let wide : register r.now t < 2 ^ 64 = r.meets.wide t in
     let value : plus64 (register r.now t) 0 ≡ register r.now t = omega arith in
     let second_goes : step (jump r.now (c.pc + 4)) ≡ Continues (next (set_register (jump r.now (c.pc + 4)) d (register r.now t))) =
-    step-stands words r.sat.place (jump r.now (c.pc + 4)) (c.pc + 4) (ADDI d t (pos 0)) refl r.sat.segments addi ∙ act-ADDI d t (pos 0) (jump r.now (c.pc + 4))
+    step-stands words r.meets.data_bytes (jump r.now (c.pc + 4)) (c.pc + 4) (ADDI d t (pos 0)) refl r.meets.segments addi ∙ act-ADDI d t (pos 0) (jump r.now (c.pc + 4))
     ∙ ap (λ x. put d x (jump r.now (c.pc + 4))) value in
     let fits : Fits (ADDI d t (pos 0)) = addi.is_word.0 in
     let at : plus64 (c.pc + 4) 4 ≡ c.pc + 8 = omega arith in
@@ -100,9 +100,9 @@ not_taken words listed c d b t v s f one two three nonzero room beq addi r other
       flip = None;
       few = omega arith;
       good = record {
-        case = with_error d 0 r.case;
-        sat = put_sat words (record c { pc = c.pc + 4 }) r.case (jump r.now (c.pc + 4)) d (register r.now t) 0 (c.pc + 8) (Has Sure v) sat1 nonzero fits.0 wide
-            (sure_holds d v (register r.now t) (with_error d 0 r.case) both.0) at;
+        damage = with_error d 0 r.damage;
+        meets = meets_put words (record c { pc = c.pc + 4 }) r.damage (jump r.now (c.pc + 4)) d (register r.now t) 0 (c.pc + 8) (Has Sure v) meets1 nonzero fits.0 wide
+            (sure_holds d v (register r.now t) (with_error d 0 r.damage) both.0) at;
         pending = tt;
       };
       goes = λ k.
@@ -122,50 +122,50 @@ decided x y = by_test (x == y) refl
     by_test false e = inr (grind (arith, nat_tests))
 
 -- the branch, and where it isn't taken the word after it
-branch_moves : (words : List ℕ) (listed : ℕ → ℕ → Type 0) (c : Point) (d b t v : ℕ) → c.regs d ≡ Has One v → c.regs b ≡ Has Two v → c.regs t ≡ Has Three v → 0 < d → c.pc + 8 < 2 ^ 64 →
-    Stands words c.pc (BEQ d b (pos 8)) → Stands words (c.pc + 4) (ADDI d t (pos 0)) → Covered listed c → Moves words listed c 2 (writes c d (Has Sure v) (c.pc + 8))
+branch_moves : (words : List ℕ) (listed : ℕ → ℕ → Type 0) (c : Assertion) (d b t v : ℕ) → c.regs d ≡ Has One v → c.regs b ≡ Has Two v → c.regs t ≡ Has Three v → 0 < d → c.pc + 8 < 2 ^ 64 →
+    Stands words c.pc (BEQ d b (pos 8)) → Stands words (c.pc + 4) (ADDI d t (pos 0)) → Covered listed c → Moves words listed c 2 (after_write c d (Has Sure v) (c.pc + 8))
 branch_moves words listed c d b t v one two three nonzero room beq addi covered s f good = by_ready (ready words listed c s f covered good)
   where
-    by_ready : Ready words listed c s f → Arrives words listed (writes c d (Has Sure v) (c.pc + 8)) 2 s f
+    by_ready : Ready words listed c s f → Arrives words listed (after_write c d (Has Sure v) (c.pc + 8)) 2 s f
     by_ready r =
         elim (decided (register r.now d) (register r.now b)) [ inl same ↦ taken words listed c d b t v s f one two room beq r same | inr other ↦ not_taken words listed c d b t v s f one two three nonzero room beq addi r other ]
 
 tags_differ : (v w : ℕ) → Has One v ≡ Has Sure w → ⊥
 tags_differ v w e = cc
 
--- of a register that is written twice the second cell is known
-written_twice : (words : List ℕ) (c : Point) (d v p : ℕ) (i : Case) (s : MachineState) → Sat words (writes (writes c d (Has One v) (c.pc + 4)) d (Has Sure v) p) i s → Sat words (writes c d (Has Sure v) p) i s
-written_twice words c d v p i s sat =
+-- of a register that is written twice, the second cell is known
+written_twice : (words : List ℕ) (c : Assertion) (d v p : ℕ) (damage : Damage) (s : MachineState) → Meets words (after_write (after_write c d (Has One v) (c.pc + 4)) d (Has Sure v) p) damage s → Meets words (after_write c d (Has Sure v) p) damage s
+written_twice words c d v p damage s meets =
     record {
-      place = sat.place;
-      pc = sat.pc;
+      data_bytes = meets.data_bytes;
+      pc = meets.pc;
       regs = λ q. each q (q == d) refl;
-      wide = sat.wide;
-      count = sat.count;
-      segments = sat.segments;
-      size = sat.size;
-      slots = sat.slots;
-      regions = sat.regions;
-      input = sat.input;
-      out = sat.out;
+      wide = meets.wide;
+      count = meets.count;
+      segments = meets.segments;
+      size = meets.size;
+      slots = meets.slots;
+      regions = meets.regions;
+      input = meets.input;
+      out = meets.out;
     }
   where
-    each : (q : ℕ) (b : Bool) → (q == d) ≡ b → Holds q (with_register c.regs d (Has Sure v) q) i (register s q)
+    each : (q : ℕ) (b : Bool) → (q == d) ≡ b → Holds q (with_register c.regs d (Has Sure v) q) damage (register s q)
     each q true e =
         let same : d ≡ q = grind (arith, nat_tests) in
-        let P : ℕ → Type 0 = λ k. Holds k (with_register c.regs d (Has Sure v) k) i (register s k) in
-        let Q : Cell → Type 0 = λ cell. Holds d cell i (register s d) in
-        subst P same (subst Q (with_register-same (with_register c.regs d (Has One v)) d (Has Sure v) ∙ sym (with_register-same c.regs d (Has Sure v))) (sat.regs d))
+        let P : ℕ → Type 0 = λ k. Holds k (with_register c.regs d (Has Sure v) k) damage (register s k) in
+        let Q : Cell → Type 0 = λ cell. Holds d cell damage (register s d) in
+        subst P same (subst Q (with_register-same (with_register c.regs d (Has One v)) d (Has Sure v) ∙ sym (with_register-same c.regs d (Has Sure v))) (meets.regs d))
     each q false e =
         let other : q ≢ d = grind (arith, nat_tests) in
-        let Q : Cell → Type 0 = λ cell. Holds q cell i (register s q) in
-        subst Q (with_register-other (with_register c.regs d (Has One v)) d q (Has Sure v) other ∙ with_register-other c.regs d q (Has One v) other ∙ sym (with_register-other c.regs d q (Has Sure v) other)) (sat.regs q)
+        let Q : Cell → Type 0 = λ cell. Holds q cell damage (register s q) in
+        subst Q (with_register-other (with_register c.regs d (Has One v)) d q (Has Sure v) other ∙ with_register-other c.regs d q (Has One v) other ∙ sym (with_register-other c.regs d q (Has Sure v) other)) (meets.regs q)
 
 -- the three words: the right value comes into d, whatever one flip outside the list does
-pub fetch_moves : (words : List ℕ) (listed : ℕ → ℕ → Type 0) (c : Point) (d a b t v : ℕ) (rs : List ℕ) → IsTriple c.regs a b t v → 0 < d → d ≢ b → d ≢ t → c.pc + 12 < 2 ^ 64 →
-    StandsAll words c.pc (fetch_words d a b t) → Sures c.regs rs → AllListed listed c.pc rs → AllListed listed (c.pc + 4) rs → Moves words listed c 3 (writes c d (Has Sure v) (c.pc + 4 + 8))
+pub fetch_moves : (words : List ℕ) (listed : ℕ → ℕ → Type 0) (c : Assertion) (d a b t v : ℕ) (rs : List ℕ) → IsTriple c.regs a b t v → 0 < d → d ≢ b → d ≢ t → c.pc + 12 < 2 ^ 64 →
+    StandsAll words c.pc (fetch_words d a b t) → Sures c.regs rs → AllListed listed c.pc rs → AllListed listed (c.pc + 4) rs → Moves words listed c 3 (after_write c d (Has Sure v) (c.pc + 4 + 8))
 fetch_moves words listed c d a b t v rs triple nonzero not_b not_t room stands sures l1 l2 =
-    let d1 = writes c d (Has One v) (c.pc + 4) in
+    let d1 = after_write c d (Has One v) (c.pc + 4) in
     let at1 : plus64 c.pc 4 ≡ c.pc + 4 = omega arith in
     let one : with_register c.regs d (Has One v) d ≡ Has One v = with_register-same c.regs d (Has One v) in
     let two : with_register c.regs d (Has One v) b ≡ Has Two v = with_register-other c.regs d b (Has One v) (λ e. not_b (sym e)) ∙ triple.two in
@@ -174,4 +174,4 @@ fetch_moves words listed c d a b t v rs triple nonzero not_b not_t room stands s
     let sures1 = sures_other c.regs d (Has One v) rs not_sure sures in
     let copied = copy_moves words listed c d a (c.pc + 4) v One triple.one nonzero at1 stands.0 (covered listed c rs sures l1) in
     let branched = branch_moves words listed d1 d b t v one two three nonzero (omega arith) stands.1.0 stands.1.1.0 (covered listed d1 rs sures1 l2) in
-    moves_then words listed c d1 (writes c d (Has Sure v) (c.pc + 4 + 8)) 1 2 copied (moves_weaker words listed d1 (writes d1 d (Has Sure v) (c.pc + 4 + 8)) (writes c d (Has Sure v) (c.pc + 4 + 8)) 2 (written_twice words c d v (c.pc + 4 + 8)) branched)
+    moves_then words listed c d1 (after_write c d (Has Sure v) (c.pc + 4 + 8)) 1 2 copied (moves_weaker words listed d1 (after_write d1 d (Has Sure v) (c.pc + 4 + 8)) (after_write c d (Has Sure v) (c.pc + 4 + 8)) 2 (written_twice words c d v (c.pc + 4 + 8)) branched)

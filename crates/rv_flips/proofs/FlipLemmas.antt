@@ -1,5 +1,5 @@
--- The one lemma on flips: a flip of a register that is not taken to be right in every case leaves a state at its point, in the case that
--- the register's cell gives.
+-- The one lemma on flips: after a flip of a register that is not kept for sure, the state meets the same assertion, with the damage
+-- that the register's cell gives.
 use Rattle.std.proofs.Common.{◌≡◌, ◌≢◌, ℕ, zero, suc, ◌+◌, ◌-◌, ◌%◌, ◌<◌, ◌^◌, ◌==◌, Bool, true, false, cond, List, length, Option, Some, None, IfSome, refl, ◌∙◌, ap, subst, arith, bit_xor}
 use Rattle.std.proofs.lemmas.Bool.Decides.{nat_tests}
 use Rattle.std.proofs.lemmas.Nat.{xor_lt}
@@ -9,110 +9,110 @@ use Rattle.rv_model.specs.State.{MachineState, register}
 use Rattle.rv_model.specs.Run.{FlipFits, IsOutside, flipped, struck, later, pc_at}
 use Rattle.rv_model.proofs.RegisterLemmas.{register-set_same, register-set_other, length-set_register, bound-set_register, pc-set_register, segments-set_register, input-set_register, out-set_register}
 use Rattle.rv_model.proofs.RunLemmas.{run-suc, pc_at-zero, pc_at-suc}
-use Rattle.rv_flips.specs.Cells.{Case, Right, Cell, Free, Has, Sure, Holds, struck_case}
-use Rattle.rv_flips.specs.Points.{Point, Sat, SlotsHold}
+use Rattle.rv_flips.specs.Cells.{Damage, Nothing, Cell, Free, Has, Sure, Holds, flip_damage}
+use Rattle.rv_flips.specs.Assertion.{Assertion, Meets, SlotsHold}
 use Rattle.rv_flips.specs.Moves.{Good, Covered, Ready}
-use Rattle.rv_flips.proofs.CellLemmas.{strike_other, strike_own, slots_struck}
+use Rattle.rv_flips.proofs.CellLemmas.{tag_damage-other, flip_damage-own, slots-tag_damage}
 
 -- two to a bit's number is below 2^64
 pub bit_small : (b : ℕ) → b < 64 → 2 ^ b < 2 ^ 64
 bit_small b h = pow-lt h
 
--- a struck register's cell, for each other place
-struck_other : (own cell : Cell) (key r e x : ℕ) → key ≢ r → x < 2 ^ 64 → Holds key cell Right x → Holds key cell (struck_case own r e) x
-struck_other Free cell key r e x ne wide h = h
-struck_other (Has tag v) cell key r e x ne wide h = strike_other cell tag key r e x ne wide h
+-- after a flip of a register, what holds of each other register or slot
+flip_damage-other : (own cell : Cell) (key r e x : ℕ) → key ≢ r → x < 2 ^ 64 → Holds key cell Nothing x → Holds key cell (flip_damage own r e) x
+flip_damage-other Free cell key r e x ne wide h = h
+flip_damage-other (Has tag v) cell key r e x ne wide h = tag_damage-other cell tag key r e x ne wide h
 
-struck_slots : (own : Cell) (c : Point) (r e : ℕ) (place : List ℕ) → r < 32 → SlotsHold c.slots Right place → SlotsHold c.slots (struck_case own r e) place
-struck_slots Free c r e place small h = h
-struck_slots (Has tag v) c r e place small h = slots_struck c.slots tag r e place small h
+slots-flip_damage : (own : Cell) (c : Assertion) (r e : ℕ) (bytes : List ℕ) → r < 32 → SlotsHold c.slots Nothing bytes → SlotsHold c.slots (flip_damage own r e) bytes
+slots-flip_damage Free c r e bytes small h = h
+slots-flip_damage (Has tag v) c r e bytes small h = slots-tag_damage c.slots tag r e bytes small h
 
--- how a register's bits change
+-- by how much a register changes modulo 2^64 when its bit b is flipped
 abbrev pub change_of : ℕ → ℕ → ℕ
 change_of x b = (bit_xor x (2 ^ b) + 2 ^ 64 - x) % 2 ^ 64
 
-pub flip_sat : (words : List ℕ) (c : Point) (s : MachineState) (r b : ℕ) → Sat words c Right s → 0 < r → r < 32 → b < 64 → ((v : ℕ) → c.regs r ≡ Has Sure v → ⊥) → Sat words c (struck_case (c.regs r) r (change_of (register s r) b)) (flipped r b s)
-flip_sat words c s r b sat nonzero small bit safe =
+pub meets_flipped : (words : List ℕ) (c : Assertion) (s : MachineState) (r b : ℕ) → Meets words c Nothing s → 0 < r → r < 32 → b < 64 → ((v : ℕ) → c.regs r ≡ Has Sure v → ⊥) → Meets words c (flip_damage (c.regs r) r (change_of (register s r) b)) (flipped r b s)
+meets_flipped words c s r b meets nonzero small bit safe =
     let x = register s r in
     let y = bit_xor (register s r) (2 ^ b) in
-    let y_wide : bit_xor (register s r) (2 ^ b) < 2 ^ 64 = xor_lt 64 (register s r) (2 ^ b) (sat.wide r) (bit_small b bit) in
-    let there : r < length s.regs = omega (arith, sat.count) in
+    let y_wide : bit_xor (register s r) (2 ^ b) < 2 ^ 64 = xor_lt 64 (register s r) (2 ^ b) (meets.wide r) (bit_small b bit) in
+    let there : r < length s.regs = omega (arith, meets.count) in
     record {
-      place = sat.place;
-      pc = pc-set_register s r y ∙ sat.pc;
+      data_bytes = meets.data_bytes;
+      pc = pc-set_register s r y ∙ meets.pc;
       regs = λ q. each q (q == r) refl y_wide there;
-      wide = bound-set_register (2 ^ 64) s r y sat.wide y_wide;
-      count = length-set_register s r y ∙ sat.count;
-      segments = segments-set_register s r y ∙ sat.segments;
-      size = sat.size;
-      slots = struck_slots (c.regs r) c r (change_of (register s r) b) sat.place small sat.slots;
-      regions = sat.regions;
-      input = input-set_register s r y ∙ sat.input;
-      out = out-set_register s r y ∙ sat.out;
+      wide = bound-set_register (2 ^ 64) s r y meets.wide y_wide;
+      count = length-set_register s r y ∙ meets.count;
+      segments = segments-set_register s r y ∙ meets.segments;
+      size = meets.size;
+      slots = slots-flip_damage (c.regs r) c r (change_of (register s r) b) meets.data_bytes small meets.slots;
+      regions = meets.regions;
+      input = input-set_register s r y ∙ meets.input;
+      out = out-set_register s r y ∙ meets.out;
     }
   where
     each : (q : ℕ) (t : Bool) → (q == r) ≡ t → bit_xor (register s r) (2 ^ b) < 2 ^ 64 → r < length s.regs →
-        Holds q (c.regs q) (struck_case (c.regs r) r (change_of (register s r) b)) (register (flipped r b s) q)
+        Holds q (c.regs q) (flip_damage (c.regs r) r (change_of (register s r) b)) (register (flipped r b s) q)
     each q true e wide there =
         let same : r ≡ q = grind (arith, nat_tests) in
-        let P : ℕ → Type 0 = λ k. Holds k (c.regs k) (struck_case (c.regs r) r (change_of (register s r) b)) (register (flipped r b s) k) in
-        subst P same (rw (register-set_same s r (bit_xor (register s r) (2 ^ b)) nonzero there) (strike_own (c.regs r) r (register s r) (bit_xor (register s r) (2 ^ b)) safe (sat.wide r) wide (sat.regs r)))
+        let P : ℕ → Type 0 = λ k. Holds k (c.regs k) (flip_damage (c.regs r) r (change_of (register s r) b)) (register (flipped r b s) k) in
+        subst P same (rw (register-set_same s r (bit_xor (register s r) (2 ^ b)) nonzero there) (flip_damage-own (c.regs r) r (register s r) (bit_xor (register s r) (2 ^ b)) safe (meets.wide r) wide (meets.regs r)))
     each q false e wide there =
         let other : q ≢ r = grind (arith, nat_tests) in
-        rw (register-set_other s r q (bit_xor (register s r) (2 ^ b)) other) (struck_other (c.regs r) (c.regs q) q r (change_of (register s r) b) (register s q) other (sat.wide q) (sat.regs q))
+        rw (register-set_other s r q (bit_xor (register s r) (2 ^ b)) other) (flip_damage-other (c.regs r) (c.regs q) q r (change_of (register s r) b) (register s q) other (meets.wide q) (meets.regs q))
 
 -- the flip strikes now
-struck_now : (words : List ℕ) (listed : ℕ → ℕ → Type 0) (c : Point) (s : MachineState) (f : Flip) → Covered listed c → Sat words c Right s → FlipFits f → IsOutside listed s f → f.at ≡ 0 → Ready words listed c s (Some f)
-struck_now words listed c s f covered sat fits outside now =
+struck_now : (words : List ℕ) (listed : ℕ → ℕ → Type 0) (c : Assertion) (s : MachineState) (f : Flip) → Covered listed c → Meets words c Nothing s → FlipFits f → IsOutside listed s f → f.at ≡ 0 → Ready words listed c s (Some f)
+struck_now words listed c s f covered meets fits outside now =
     let at_zero : (f.at == 0) ≡ true = grind (arith, nat_tests) in
-    let here : pc_at f.at s ≡ Some (c.pc) = ap (λ n. pc_at n s) now ∙ pc_at-zero s ∙ ap Some sat.pc in
+    let here : pc_at f.at s ≡ Some (c.pc) = ap (λ n. pc_at n s) now ∙ pc_at-zero s ∙ ap Some meets.pc in
     let P : Option ℕ → Type 0 = λ o. IfSome o (λ p. listed p f.reg → ⊥) in
     let unlisted : listed (c.pc) f.reg → ⊥ = subst P here outside in
     let turned : struck (Some f) s ≡ flipped f.reg f.bit s = ap (λ b. cond b (flipped f.reg f.bit s) s) at_zero in
     let none : later (Some f) ≡ None = ap (λ b. cond b None (Some (record f { at = f.at - 1 }))) at_zero in
     record {
       now = flipped f.reg f.bit s;
-      case = struck_case (c.regs f.reg) f.reg (change_of (register s f.reg) f.bit);
+      damage = flip_damage (c.regs f.reg) f.reg (change_of (register s f.reg) f.bit);
       rest = None;
-      sat = flip_sat words c s f.reg f.bit sat fits.0 fits.1 fits.2 (λ v is. unlisted (covered f.reg v is fits.0));
-      goes = λ k. run-suc k s (Some f) ∙ rw (turned, none, sat.out) refl;
+      meets = meets_flipped words c s f.reg f.bit meets fits.0 fits.1 fits.2 (λ v is. unlisted (covered f.reg v is fits.0));
+      goes = λ k. run-suc k s (Some f) ∙ rw (turned, none, meets.out) refl;
       pending = λ t e. tt;
     }
 
 -- the flip comes later
-strikes_later : (words : List ℕ) (listed : ℕ → ℕ → Type 0) (c : Point) (s : MachineState) (f : Flip) → Sat words c Right s → FlipFits f → IsOutside listed s f → (n : ℕ) → f.at ≡ suc n → Ready words listed c s (Some f)
-strikes_later words listed c s f sat fits outside n more =
+strikes_later : (words : List ℕ) (listed : ℕ → ℕ → Type 0) (c : Assertion) (s : MachineState) (f : Flip) → Meets words c Nothing s → FlipFits f → IsOutside listed s f → (n : ℕ) → f.at ≡ suc n → Ready words listed c s (Some f)
+strikes_later words listed c s f meets fits outside n more =
     let not_now : (f.at == 0) ≡ false = grind (arith, nat_tests) in
     let as_is : struck (Some f) s ≡ s = ap (λ b. cond b (flipped f.reg f.bit s) s) not_now in
     let kept : later (Some f) ≡ Some (record f { at = f.at - 1 }) = ap (λ b. cond b None (Some (record f { at = f.at - 1 }))) not_now in
     record {
       now = s;
-      case = Right;
+      damage = Nothing;
       rest = Some (record f { at = f.at - 1 });
-      sat = sat;
-      goes = λ k. run-suc k s (Some f) ∙ rw (as_is, kept, sat.out) refl;
+      meets = meets;
+      goes = λ k. run-suc k s (Some f) ∙ rw (as_is, kept, meets.out) refl;
       pending = λ t e.
           let there : pc_at f.at s ≡ pc_at (f.at - 1) t = ap (λ m. pc_at m s) more ∙ pc_at-suc n s t e ∙ ap (λ m. pc_at m t) (omega arith) in
           let P : Option ℕ → Type 0 = λ o. IfSome o (λ p. listed p f.reg → ⊥) in
-          record { right = refl; fits = fits; outside = subst P there outside };
+          record { undamaged = refl; fits = fits; outside = subst P there outside };
     }
 
--- at a point where the list has each register that it must, the flip strikes or is still to come
-pub ready : (words : List ℕ) (listed : ℕ → ℕ → Type 0) (c : Point) (s : MachineState) (f : Option Flip) → Covered listed c → Good words listed c s f → Ready words listed c s f
+-- where the list has each register that it must, the flip strikes or is still to come
+pub ready : (words : List ℕ) (listed : ℕ → ℕ → Type 0) (c : Assertion) (s : MachineState) (f : Option Flip) → Covered listed c → Good words listed c s f → Ready words listed c s f
 ready words listed c s None covered good =
     record {
       now = s;
-      case = good.case;
+      damage = good.damage;
       rest = None;
-      sat = good.sat;
-      goes = λ k. run-suc k s None ∙ rw (good.sat.out) refl;
+      meets = good.meets;
+      goes = λ k. run-suc k s None ∙ rw (good.meets.out) refl;
       pending = λ t e. tt;
     }
 ready words listed c s (Some f) covered good =
-    let P : Case → Type 0 = λ i. Sat words c i s in
-    let sat : Sat words c Right s = subst P good.pending.right good.sat in
-    by_time (f.at) refl sat good.pending.fits good.pending.outside
+    let P : Damage → Type 0 = λ damage. Meets words c damage s in
+    let meets : Meets words c Nothing s = subst P good.pending.undamaged good.meets in
+    by_time (f.at) refl meets good.pending.fits good.pending.outside
   where
-    by_time : (n : ℕ) → f.at ≡ n → Sat words c Right s → FlipFits f → IsOutside listed s f → Ready words listed c s (Some f)
-    by_time zero e sat fits outside = struck_now words listed c s f covered sat fits outside e
-    by_time (suc n) e sat fits outside = strikes_later words listed c s f sat fits outside n e
+    by_time : (n : ℕ) → f.at ≡ n → Meets words c Nothing s → FlipFits f → IsOutside listed s f → Ready words listed c s (Some f)
+    by_time zero e meets fits outside = struck_now words listed c s f covered meets fits outside e
+    by_time (suc n) e meets fits outside = strikes_later words listed c s f meets fits outside n e

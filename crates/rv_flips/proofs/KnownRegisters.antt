@@ -1,8 +1,8 @@
--- Which registers are taken to be right in every case, and so must be listed.
+-- Which registers keep a value for sure, and so must be listed.
 use Rattle.std.proofs.Common.{◌≡◌, ◌≢◌, ℕ, ◌==◌, inl, inr, Bool, true, false, List, [], ◌∷◌, refl, sym, ◌∙◌, subst, arith}
 use Rattle.std.proofs.lemmas.Bool.Decides.{nat_tests}
 use Rattle.rv_flips.specs.Cells.{Cell, Has, Sure}
-use Rattle.rv_flips.specs.Points.{Point, with_register}
+use Rattle.rv_flips.specs.Assertion.{Assertion, with_register}
 use Rattle.rv_flips.specs.Known.{IsOneOf, Sures, AllListed}
 use Rattle.rv_flips.specs.Moves.{Covered}
 use Rattle.rv_flips.proofs.CellLemmas.{with_register-same, with_register-other}
@@ -12,7 +12,7 @@ is_listed listed p r [] h k = absurd k
 is_listed listed p r (x ∷ xs) h (inl e) = let P : ℕ → Type 0 = λ q. listed p q in subst P (sym e) h.0
 is_listed listed p r (x ∷ xs) h (inr k) = is_listed listed p r xs h.1 k
 
-pub covered : (listed : ℕ → ℕ → Type 0) (c : Point) (rs : List ℕ) → Sures c.regs rs → AllListed listed c.pc rs → Covered listed c
+pub covered : (listed : ℕ → ℕ → Type 0) (c : Assertion) (rs : List ℕ) → Sures c.regs rs → AllListed listed c.pc rs → Covered listed c
 covered listed c rs sures all r v is nonzero = is_listed listed c.pc r rs all (sures r v is nonzero)
 
 -- one more register

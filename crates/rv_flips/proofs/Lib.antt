@@ -8,3 +8,4 @@ pub mod Windows
 pub mod EndingLaws
 pub mod SlotLemmas
 pub mod Fetch
+pub mod ComputingLaw

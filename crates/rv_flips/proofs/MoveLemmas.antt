@@ -5,39 +5,39 @@ use Rattle.rv_model.specs.State.{MachineState}
 use Rattle.rv_model.specs.Step.{StepResult, Ends, step}
 use Rattle.rv_model.specs.Run.{more, after, run}
 use Rattle.rv_model.proofs.RunLemmas.{more-more, more-zero}
-use Rattle.rv_flips.specs.Cells.{Case, Right}
-use Rattle.rv_flips.specs.Points.{Point, Sat}
+use Rattle.rv_flips.specs.Cells.{Damage, Nothing}
+use Rattle.rv_flips.specs.Assertion.{Assertion, Meets}
 use Rattle.rv_flips.specs.Moves.{Pending, Covered, Ready, Arrives, Moves, Does, EndsWithin, Finishes}
 use Rattle.rv_flips.proofs.FlipLemmas.{ready}
 
--- a flip still to come is so in another right case
-pending_kept : (listed : ℕ → ℕ → Type 0) (i j : Case) (t : MachineState) (f : Option Flip) → (i ≡ Right → j ≡ Right) → Pending listed i t f → Pending listed j t f
-pending_kept listed i j t None keeps h = tt
-pending_kept listed i j t (Some f) keeps h = record { right = keeps h.right; fits = h.fits; outside = h.outside }
+-- a flip that is still to come is so after a step that damages nothing
+pending_kept : (listed : ℕ → ℕ → Type 0) (damage damage' : Damage) (t : MachineState) (f : Option Flip) → (damage ≡ Nothing → damage' ≡ Nothing) → Pending listed damage t f → Pending listed damage' t f
+pending_kept listed damage damage' t None keeps h = tt
+pending_kept listed damage damage' t (Some f) keeps h = record { undamaged = keeps h.undamaged; fits = h.fits; outside = h.outside }
 
--- where a flip is still to come, all is right
-pub settled : (listed : ℕ → ℕ → Type 0) (i : Case) (s : MachineState) (f : Option Flip) → (i ≡ Right → ⊥) → Pending listed i s f → f ≡ None
-settled listed i s None wrong h = refl
-settled listed i s (Some f) wrong h = absurd (wrong h.right)
+-- where something is damaged, no flip is to come
+pub settled : (listed : ℕ → ℕ → Type 0) (damage : Damage) (s : MachineState) (f : Option Flip) → (damage ≡ Nothing → ⊥) → Pending listed damage s f → f ≡ None
+settled listed damage s None wrong h = refl
+settled listed damage s (Some f) wrong h = absurd (wrong h.undamaged)
 
--- one word, from what it does in each case
-pub one_word : (words : List ℕ) (listed : ℕ → ℕ → Type 0) (c d : Point) → Covered listed c → ((i : Case) (s : MachineState) → Sat words c i s → Does words c i s d) → Moves words listed c 1 d
+-- one word, from what it does with each damage
+pub one_word : (words : List ℕ) (listed : ℕ → ℕ → Type 0) (c d : Assertion) → Covered listed c → ((damage : Damage) (s : MachineState) → Meets words c damage s → Does words damage s d) → Moves words listed c 1 d
 one_word words listed c d covered word s f good =
     let r : Ready words listed c s f = ready words listed c s f covered good in
-    let w : Does words c r.case r.now d = word r.case r.now r.sat in
+    let w : Does words r.damage r.now d = word r.damage r.now r.meets in
     record {
       steps = 1;
       state = w.state;
       flip = r.rest;
       few = omega arith;
-      good = record { case = w.case; sat = w.sat; pending = pending_kept listed r.case w.case w.state r.rest w.keeps (r.pending w.state w.goes) };
+      good = record { damage = w.damage; meets = w.meets; pending = pending_kept listed r.damage w.damage w.state r.rest w.keeps (r.pending w.state w.goes) };
       goes = λ k.
           let first : 1 + k ≡ suc k = omega arith in
           ap (λ n. run n s f) first ∙ r.goes k ∙ ap (λ (x : StepResult). after x c.out (λ t. run k t r.rest)) w.goes;
     }
 
 -- one stretch after another
-pub moves_then : (words : List ℕ) (listed : ℕ → ℕ → Type 0) (c d e : Point) (m n : ℕ) → Moves words listed c m d → Moves words listed d n e → Moves words listed c (m + n) e
+pub moves_then : (words : List ℕ) (listed : ℕ → ℕ → Type 0) (c d e : Assertion) (m n : ℕ) → Moves words listed c m d → Moves words listed d n e → Moves words listed c (m + n) e
 moves_then words listed c d e m n one two s f good =
     let a : Arrives words listed d m s f = one s f good in
     let b : Arrives words listed e n a.state a.flip = two a.state a.flip a.good in
@@ -52,7 +52,7 @@ moves_then words listed c d e m n one two s f good =
           ap (λ n. run n s f) (add_assoc a.steps b.steps k) ∙ a.goes (b.steps + k) ∙ ap (more a.steps) (b.goes k) ∙ more-more a.steps b.steps (run k b.state b.flip);
     }
 
-pub moves_none : (words : List ℕ) (listed : ℕ → ℕ → Type 0) (c : Point) → Moves words listed c 0 c
+pub moves_none : (words : List ℕ) (listed : ℕ → ℕ → Type 0) (c : Assertion) → Moves words listed c 0 c
 moves_none words listed c s f good =
     record {
       steps = 0;
@@ -64,14 +64,14 @@ moves_none words listed c s f good =
     }
 
 -- a stretch that may take fewer instructions
-pub moves_within : (words : List ℕ) (listed : ℕ → ℕ → Type 0) (c d : Point) (m n : ℕ) → m ≤ n → Moves words listed c m d → Moves words listed c n d
+pub moves_within : (words : List ℕ) (listed : ℕ → ℕ → Type 0) (c d : Assertion) (m n : ℕ) → m ≤ n → Moves words listed c m d → Moves words listed c n d
 moves_within words listed c d m n le one s f good =
     let a : Arrives words listed d m s f = one s f good in
     let few : a.steps ≤ n = omega (arith, a.few) in
     record { steps = a.steps; state = a.state; flip = a.flip; few = few; good = a.good; goes = a.goes }
 
--- from each state at c in some case to one at d: a law without words, as forgetting what is known
-pub moves_weaker : (words : List ℕ) (listed : ℕ → ℕ → Type 0) (c d e : Point) (n : ℕ) → ((i : Case) (s : MachineState) → Sat words d i s → Sat words e i s) → Moves words listed c n d → Moves words listed c n e
+-- a weaker assertion at the end, as by forgetting what is known
+pub moves_weaker : (words : List ℕ) (listed : ℕ → ℕ → Type 0) (c d e : Assertion) (n : ℕ) → ((damage : Damage) (s : MachineState) → Meets words d damage s → Meets words e damage s) → Moves words listed c n d → Moves words listed c n e
 moves_weaker words listed c d e n weaker one s f good =
     let a : Arrives words listed d n s f = one s f good in
     record {
@@ -79,15 +79,15 @@ moves_weaker words listed c d e n weaker one s f good =
       state = a.state;
       flip = a.flip;
       few = a.few;
-      good = record { case = a.good.case; sat = weaker a.good.case a.state a.good.sat; pending = a.good.pending };
+      good = record { damage = a.good.damage; meets = weaker a.good.damage a.state a.good.meets; pending = a.good.pending };
       goes = a.goes;
     }
 
 -- the word that ends the program
-pub last_word : (words : List ℕ) (listed : ℕ → ℕ → Type 0) (c : Point) (status : ℕ) → Covered listed c → ((i : Case) (s : MachineState) → Sat words c i s → step s ≡ Ends status) → Finishes words listed c 1 c.out status
+pub last_word : (words : List ℕ) (listed : ℕ → ℕ → Type 0) (c : Assertion) (status : ℕ) → Covered listed c → ((damage : Damage) (s : MachineState) → Meets words c damage s → step s ≡ Ends status) → Finishes words listed c 1 c.out status
 last_word words listed c status covered word s f good =
     let r : Ready words listed c s f = ready words listed c s f covered good in
-    let e : step r.now ≡ Ends status = word r.case r.now r.sat in
+    let e : step r.now ≡ Ends status = word r.damage r.now r.meets in
     record {
       steps = 1;
       few = omega arith;
@@ -97,7 +97,7 @@ last_word words listed c status covered word s f good =
     }
 
 -- a stretch, and then the end
-pub moves_finish : (words : List ℕ) (listed : ℕ → ℕ → Type 0) (c d : Point) (m n : ℕ) (out : List ℕ) (status : ℕ) → Moves words listed c m d → Finishes words listed d n out status → Finishes words listed c (m + n) out status
+pub moves_finish : (words : List ℕ) (listed : ℕ → ℕ → Type 0) (c d : Assertion) (m n : ℕ) (out : List ℕ) (status : ℕ) → Moves words listed c m d → Finishes words listed d n out status → Finishes words listed c (m + n) out status
 moves_finish words listed c d m n out status one two s f good =
     let a : Arrives words listed d m s f = one s f good in
     let b : EndsWithin n a.state a.flip out status = two a.state a.flip a.good in

@@ -7,43 +7,43 @@ use Rattle.rv_model.specs.Run.{run}
 use Rattle.rv_model.specs.Text.{text_base}
 use Rattle.rv_model.specs.Start.{started, program_image}
 use Rattle.rv_model.proofs.StartLemmas.{segments-started, register-started, count-started, pc-started, input-started, out-started}
-use Rattle.rv_flips.specs.Cells.{Right, Cell, Free, Has, Sure, Holds}
-use Rattle.rv_flips.specs.Points.{Point, Sat}
+use Rattle.rv_flips.specs.Cells.{Nothing, Cell, Free, Has, Sure, Holds}
+use Rattle.rv_flips.specs.Assertion.{Assertion, Meets}
 use Rattle.rv_flips.specs.Moves.{EndsWithin, Finishes}
 use Rattle.rv_flips.specs.Survives.{IsListed, Ends, Survives}
 use Rattle.rv_flips.specs.Known.{Sures}
 
 -- x0 is 0
-unfoldable pub first_cells : ℕ → Cell
-first_cells zero = Has Sure 0
-first_cells (suc q) = Free
+unfoldable pub start_cells : ℕ → Cell
+start_cells zero = Has Sure 0
+start_cells (suc q) = Free
 
--- the point at which an executable starts
-abbrev pub first_point : List ℕ → List ℕ → ℕ → Point
-first_point init input extra =
-    record { pc = text_base; regs = first_cells; slots = []; regions = []; size = length (init ++ replicate extra 0); input = input; out = [] }
+-- what is known where an executable starts
+abbrev pub start_assertion : List ℕ → List ℕ → ℕ → Assertion
+start_assertion init input extra =
+    record { pc = text_base; regs = start_cells; slots = []; regions = []; size = length (init ++ replicate extra 0); input = input; out = [] }
 
-pub first_cells-zero : first_cells 0 ≡ Has Sure 0
-unfolding first_cells
-first_cells-zero = refl
+pub start_cells-zero : start_cells 0 ≡ Has Sure 0
+unfolding start_cells
+start_cells-zero = refl
 
-pub sures-first_cells : Sures first_cells []
-unfolding first_cells
-sures-first_cells zero v is nonzero = omega arith
-sures-first_cells (suc r) v is nonzero = absurd (cc)
+pub sures-start_cells : Sures start_cells []
+unfolding start_cells
+sures-start_cells zero v is nonzero = omega arith
+sures-start_cells (suc r) v is nonzero = absurd (cc)
 
-first_holds : (q x : ℕ) → x ≡ 0 → Holds q (first_cells q) Right x
-unfolding first_cells
-first_holds zero x e = e
-first_holds (suc q) x e = tt
+start_holds : (q x : ℕ) → x ≡ 0 → Holds q (start_cells q) Nothing x
+unfolding start_cells
+start_holds zero x e = e
+start_holds (suc q) x e = tt
 
-pub first_sat : (words init : List ℕ) (extra : ℕ) (input : List ℕ) → Sat words (first_point init input extra) Right (started (program_image words init extra) input)
-first_sat words init extra input =
+pub meets_start : (words init : List ℕ) (extra : ℕ) (input : List ℕ) → Meets words (start_assertion init input extra) Nothing (started (program_image words init extra) input)
+meets_start words init extra input =
     let image = program_image words init extra in
     record {
-      place = init ++ replicate extra 0;
+      data_bytes = init ++ replicate extra 0;
       pc = pc-started image input;
-      regs = λ q. first_holds q (register (started (program_image words init extra) input) q) (register-started image input q);
+      regs = λ q. start_holds q (register (started (program_image words init extra) input) q) (register-started image input q);
       wide = λ q. let none : register (started (program_image words init extra) input) q ≡ 0 = register-started image input q in omega arith;
       count = count-started image input;
       segments = segments-started words init extra input;
@@ -62,11 +62,11 @@ ends_within n bound s f out status le e =
     record { steps = e.steps; within = few; ends = ap (λ k. run k s f) same ∙ e.ends (bound - e.steps) }
 
 -- what finishes from the start survives
-pub survives : (words init : List ℕ) (extra : ℕ) (input : List ℕ) (points : List (ℕ × ℕ)) (n bound : ℕ) (out : List ℕ) (status : ℕ) → n ≤ bound → Finishes words (IsListed points) (first_point init input extra) n out status → Survives (program_image words init extra) points input out status bound
+pub survives : (words init : List ℕ) (extra : ℕ) (input : List ℕ) (points : List (ℕ × ℕ)) (n bound : ℕ) (out : List ℕ) (status : ℕ) → n ≤ bound → Finishes words (IsListed points) (start_assertion init input extra) n out status → Survives (program_image words init extra) points input out status bound
 survives words init extra input points n bound out status le finishes =
     let s = started (program_image words init extra) input in
-    let sat = first_sat words init extra input in
+    let meets = meets_start words init extra input in
     record {
-      unflipped = ends_within n bound s None out status le (finishes s None (record { case = Right; sat = sat; pending = tt }));
-      flipped = λ f fits outside. ends_within n bound s (Some f) out status le (finishes s (Some f) (record { case = Right; sat = sat; pending = record { right = refl; fits = fits; outside = outside } }));
+      unflipped = ends_within n bound s None out status le (finishes s None (record { damage = Nothing; meets = meets; pending = tt }));
+      flipped = λ f fits outside. ends_within n bound s (Some f) out status le (finishes s (Some f) (record { damage = Nothing; meets = meets; pending = record { undamaged = refl; fits = fits; outside = outside } }));
     }

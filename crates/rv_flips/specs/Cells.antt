@@ -1,17 +1,17 @@
--- What a register or a slot of memory is known to hold, whatever one flip may have struck.
+-- What a register or a slot of memory is known to hold, whatever one flip has damaged.
 use Rattle.std.specs.Prelude.{◌≡◌, ℕ, ◌+◌, ◌%◌, ◌^◌, ◌==◌, if◌then◌else◌}
 
--- what may be wrong: nothing; every first, second or third copy; every plain version of a pair; or code words, each by an error modulo
--- 2^64, by the register's number or the slot's
-pub data Case : Type 0 where
-  Right : Case
-  First : Case
-  Second : Case
-  Third : Case
-  Plains : Case
-  Codes : (errors : ℕ → ℕ) → Case
+-- what is damaged: nothing; first copies, second copies or third copies; plain versions of pairs; or code words of pairs, each by an
+-- error modulo 2^64 of its own. An error goes by its key: a register's number, or the key of a slot.
+pub data Damage : Type 0 where
+  Nothing : Damage
+  First : Damage
+  Second : Damage
+  Third : Damage
+  Plains : Damage
+  Codes : (errors : ℕ → ℕ) → Damage
 
--- how a value is kept: it is right in every case; as one of three copies; as the plain version or the code word of a pair
+-- how a value is kept: for sure, so right whatever is damaged; as one of three copies; as the plain version or the code word of a pair
 pub data Tag : Type 0 where
   Sure : Tag
   One : Tag
@@ -20,59 +20,61 @@ pub data Tag : Type 0 where
   Plain : Tag
   Code : Tag
 
--- what a case does to a value that is kept so
-pub data Damage : Type 0 where
-  Intact : Damage
-  Lost : Damage
-  By : (error : ℕ) → Damage
+-- what becomes of a kept value: it is as it was, it is lost, or it is off by an error
+pub data Effect : Type 0 where
+  Intact : Effect
+  Lost : Effect
+  OffBy : (error : ℕ) → Effect
 
-abbrev pub damage : ℕ → Tag → Case → Damage
-damage key One First = Lost
-damage key Two Second = Lost
-damage key Three Third = Lost
-damage key Plain Plains = Lost
-damage key Code (Codes errors) = By (errors key)
-damage key _ _ = Intact
+-- what a damage does to a value with this tag, in the register or slot with this key
+abbrev pub effect : ℕ → Tag → Damage → Effect
+effect key One First = Lost
+effect key Two Second = Lost
+effect key Three Third = Lost
+effect key Plain Plains = Lost
+effect key Code (Codes errors) = OffBy (errors key)
+effect key _ _ = Intact
 
--- nothing is known of a place, or it keeps a value
+-- what is known of a register or a slot: nothing, or that it keeps a value
 pub data Cell : Type 0 where
   Free : Cell
   Has : (tag : Tag) (value : ℕ) → Cell
 
--- x is what is left of the value v
-abbrev pub HoldsBy : Damage → ℕ → ℕ → Type 0
-HoldsBy Intact v x = x ≡ v
-HoldsBy Lost v x = Unit {0}
-HoldsBy (By error) v x = x ≡ (v + error) % 2 ^ 64
+-- x is what this effect leaves of the value v
+abbrev pub HoldsAfter : Effect → ℕ → ℕ → Type 0
+HoldsAfter Intact v x = x ≡ v
+HoldsAfter Lost v x = Unit {0}
+HoldsAfter (OffBy error) v x = x ≡ (v + error) % 2 ^ 64
 
--- the place with this key and cell holds x in this case
-abbrev pub Holds : ℕ → Cell → Case → ℕ → Type 0
-Holds key Free i x = Unit {0}
-Holds key (Has tag v) i x = HoldsBy (damage key tag i) v x
+-- the register or slot with this key, of which the cell is known, may hold x with this damage
+abbrev pub Holds : ℕ → Cell → Damage → ℕ → Type 0
+Holds key Free damage x = Unit {0}
+Holds key (Has tag v) damage x = HoldsAfter (effect key tag damage) v x
 
 -- one error, of one key
 abbrev pub error_at : ℕ → ℕ → ℕ → ℕ
 error_at key e k = if k == key then e else 0
 
--- the case after a flip of a register whose value is kept so, where all was right: its bits changed by e modulo 2^64
-abbrev pub strike : Tag → ℕ → ℕ → Case
-strike Sure key e = Right
-strike One key e = First
-strike Two key e = Second
-strike Three key e = Third
-strike Plain key e = Plains
-strike Code key e = Codes (error_at key e)
+-- the damage by a flip of a register whose value has this tag, where nothing was damaged before: it changed by e modulo 2^64
+abbrev pub tag_damage : Tag → ℕ → ℕ → Damage
+tag_damage Sure key e = Nothing
+tag_damage One key e = First
+tag_damage Two key e = Second
+tag_damage Three key e = Third
+tag_damage Plain key e = Plains
+tag_damage Code key e = Codes (error_at key e)
 
-abbrev pub struck_case : Cell → ℕ → ℕ → Case
-struck_case Free key e = Right
-struck_case (Has tag v) key e = strike tag key e
+-- the damage by a flip of a register with this cell
+abbrev pub flip_damage : Cell → ℕ → ℕ → Damage
+flip_damage Free key e = Nothing
+flip_damage (Has tag v) key e = tag_damage tag key e
 
--- the case with another error at one key
-abbrev pub with_error : ℕ → ℕ → Case → Case
+-- the damage with another error at one key
+abbrev pub with_error : ℕ → ℕ → Damage → Damage
 with_error key e (Codes errors) = Codes (λ k. if k == key then e else errors k)
-with_error key e i = i
+with_error key e damage = damage
 
--- the error of a key in a case
-abbrev pub error_of : ℕ → Case → ℕ
+-- the error at a key
+abbrev pub error_of : ℕ → Damage → ℕ
 error_of key (Codes errors) = errors key
 error_of key _ = 0

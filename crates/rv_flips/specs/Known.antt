@@ -1,4 +1,4 @@
--- Which registers are taken to be right in every case, and so must be listed.
+-- Which registers keep a value for sure, and so must be listed.
 use Rattle.std.specs.Prelude.{◌≡◌, ◌⊎◌, ◌<◌, ℕ, List, [], ◌∷◌}
 use Rattle.rv_flips.specs.Cells.{Cell, Has, Sure}
 
@@ -7,7 +7,7 @@ abbrev pub IsOneOf : ℕ → List ℕ → Type 0
 IsOneOf r [] = ⊥
 IsOneOf r (x ∷ xs) = (r ≡ x) ⊎ IsOneOf r xs
 
--- of the registers but x0, these alone are taken to be right in every case
+-- of the registers but x0, these alone keep a value for sure
 abbrev pub Sures : (ℕ → Cell) → List ℕ → Type 0
 Sures regs rs = (r v : ℕ) → regs r ≡ Has Sure v → 0 < r → IsOneOf r rs
 

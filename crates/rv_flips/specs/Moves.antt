@@ -1,43 +1,45 @@
--- From point to point, with at most one flip that falls outside a list of pairs of a pc and a register.
+-- From one assertion to another, with at most one flip, which falls outside a list of points. A point is a pc with a register.
 use Rattle.std.specs.Prelude.{◌≡◌, ℕ, suc, ◌+◌, ◌≤◌, ◌<◌, List, Option, Some, None}
 use Rattle.rv_model.specs.declared.Flip.{Flip}
 use Rattle.rv_model.specs.State.{MachineState}
 use Rattle.rv_model.specs.Step.{Continues, step}
 use Rattle.rv_model.specs.Run.{HasEnded, FlipFits, IsOutside, more, after, run}
-use Rattle.rv_flips.specs.Cells.{Case, Right, Has, Sure}
-use Rattle.rv_flips.specs.Points.{Point, Sat}
+use Rattle.rv_flips.specs.Cells.{Damage, Nothing, Has, Sure}
+use Rattle.rv_flips.specs.Assertion.{Assertion, Meets}
 
--- a flip that is still to come: all is right so far, and it falls outside the list
-pub record IsPending (listed : ℕ → ℕ → Type 0) (i : Case) (s : MachineState) (f : Flip) : Type 0 where
-  pub right : i ≡ Right
+-- a flip that is still to come: nothing is damaged so far, and it falls outside the list
+pub record IsPending (listed : ℕ → ℕ → Type 0) (damage : Damage) (s : MachineState) (f : Flip) : Type 0 where
+  pub undamaged : damage ≡ Nothing
   pub fits : FlipFits f
   pub outside : IsOutside listed s f
 
-abbrev pub Pending : (ℕ → ℕ → Type 0) → Case → MachineState → Option Flip → Type 0
-Pending listed i s None = Unit {0}
-Pending listed i s (Some f) = IsPending listed i s f
+-- the flip, if one is still to come, is so
+abbrev pub Pending : (ℕ → ℕ → Type 0) → Damage → MachineState → Option Flip → Type 0
+Pending listed damage s None = Unit {0}
+Pending listed damage s (Some f) = IsPending listed damage s f
 
--- a state at the point, with the flip that is still to come, if one is
-pub record Good (words : List ℕ) (listed : ℕ → ℕ → Type 0) (c : Point) (s : MachineState) (f : Option Flip) : Type 0 where
-  pub case : Case
-  pub sat : Sat words c case s
-  pub pending : Pending listed case s f
+-- a state that meets the assertion with some damage, and a flip that is still to come, if one is
+pub record Good (words : List ℕ) (listed : ℕ → ℕ → Type 0) (c : Assertion) (s : MachineState) (f : Option Flip) : Type 0 where
+  pub damage : Damage
+  pub meets : Meets words c damage s
+  pub pending : Pending listed damage s f
 
--- at the point, each register that is taken to be right in every case, but x0, is listed
-abbrev pub Covered : (ℕ → ℕ → Type 0) → Point → Type 0
+-- each register that the assertion has for sure, but x0, is listed at its pc
+abbrev pub Covered : (ℕ → ℕ → Type 0) → Assertion → Type 0
 Covered listed c = (r v : ℕ) → c.regs r ≡ Has Sure v → 0 < r → listed c.pc r
 
--- the flip, if it comes here, has struck: the state in which the instruction at the point is tried, its case, and the flip that is left
-pub record Ready (words : List ℕ) (listed : ℕ → ℕ → Type 0) (c : Point) (s : MachineState) (f : Option Flip) : Type 0 where
+-- the flip, if it comes here, has struck: the state in which the next instruction is tried meets the assertion with some damage; and
+-- the flip that is left
+pub record Ready (words : List ℕ) (listed : ℕ → ℕ → Type 0) (c : Assertion) (s : MachineState) (f : Option Flip) : Type 0 where
   pub now : MachineState
-  pub case : Case
+  pub damage : Damage
   pub rest : Option Flip
-  pub sat : Sat words c case now
+  pub meets : Meets words c damage now
   pub goes : (k : ℕ) → run (suc k) s f ≡ after (step now) c.out (λ t. run k t rest)
-  pub pending : (t : MachineState) → step now ≡ Continues t → Pending listed case t rest
+  pub pending : (t : MachineState) → step now ≡ Continues t → Pending listed damage t rest
 
--- a run comes to the point after at most n instructions
-pub record Arrives (words : List ℕ) (listed : ℕ → ℕ → Type 0) (c : Point) (n : ℕ) (s : MachineState) (f : Option Flip) : Type 0 where
+-- a run comes to a state that meets the assertion after at most n instructions
+pub record Arrives (words : List ℕ) (listed : ℕ → ℕ → Type 0) (c : Assertion) (n : ℕ) (s : MachineState) (f : Option Flip) : Type 0 where
   pub steps : ℕ
   pub state : MachineState
   pub flip : Option Flip
@@ -45,17 +47,17 @@ pub record Arrives (words : List ℕ) (listed : ℕ → ℕ → Type 0) (c : Poi
   pub good : Good words listed c state flip
   pub goes : (k : ℕ) → run (steps + k) s f ≡ more steps (run k state flip)
 
--- from the point c every run comes to the point d after at most n instructions
-abbrev pub Moves : List ℕ → (ℕ → ℕ → Type 0) → Point → ℕ → Point → Type 0
+-- each run from a state that meets c comes to one that meets d, after at most n instructions
+abbrev pub Moves : List ℕ → (ℕ → ℕ → Type 0) → Assertion → ℕ → Assertion → Type 0
 Moves words listed c n d = (s : MachineState) (f : Option Flip) → Good words listed c s f → Arrives words listed d n s f
 
--- what one word does to a state at c in some case: the machine goes on at d, in a case that is right where the first was
-pub record Does (words : List ℕ) (c : Point) (i : Case) (s : MachineState) (d : Point) : Type 0 where
+-- what one word does to a state: the machine goes on in a state that meets d, and nothing is damaged where nothing was before
+pub record Does (words : List ℕ) (before : Damage) (s : MachineState) (d : Assertion) : Type 0 where
   pub state : MachineState
-  pub case : Case
+  pub damage : Damage
   pub goes : step s ≡ Continues state
-  pub keeps : i ≡ Right → case ≡ Right
-  pub sat : Sat words d case state
+  pub keeps : before ≡ Nothing → damage ≡ Nothing
+  pub meets : Meets words d damage state
 
 -- the run ends with this output and status after at most n instructions
 pub record EndsWithin (n : ℕ) (s : MachineState) (f : Option Flip) (out : List ℕ) (status : ℕ) : Type 0 where
@@ -63,6 +65,6 @@ pub record EndsWithin (n : ℕ) (s : MachineState) (f : Option Flip) (out : List
   pub few : steps ≤ n
   pub ends : (k : ℕ) → run (steps + k) s f ≡ HasEnded out status steps
 
--- from the point every run ends so
-abbrev pub Finishes : List ℕ → (ℕ → ℕ → Type 0) → Point → ℕ → List ℕ → ℕ → Type 0
+-- each run from a state that meets the assertion ends so
+abbrev pub Finishes : List ℕ → (ℕ → ℕ → Type 0) → Assertion → ℕ → List ℕ → ℕ → Type 0
 Finishes words listed c n out status = (s : MachineState) (f : Option Flip) → Good words listed c s f → EndsWithin n s f out status

@@ -6,7 +6,7 @@ use Rattle.rv_model.specs.State.{MachineState}
 use Rattle.rv_model.specs.Run.{HasEnded, FlipFits, IsOutside, run}
 use Rattle.rv_model.specs.Start.{started}
 
--- the pair of a pc and a register is in the list
+-- the point, a pc and a register, is in the list
 abbrev pub IsListed : List (ℕ × ℕ) → ℕ → ℕ → Type 0
 IsListed points p r = Any (λ q. (q.0 ≡ p) × (q.1 ≡ r)) points
 

@@ -1,4 +1,4 @@
-//! Words under one flip: what is known at a point of a text, whatever single bit of whatever register was
+//! Words under one flip: what is known at an address of a text, whatever single bit of whatever register was
 //! flipped before, outside a list of points. Definitions and laws; there is no code here.
 #![tactic(auto)]
 
@@ -7,6 +7,7 @@ ghost use Rattle.rv_inst.specs.Window.{IsWindowPoint};
 ghost use Rattle.rv_model.specs.Start.{program_image};
 ghost use Rattle.rv_model.specs.Step.{bits64};
 ghost use Rattle.rv_model.specs.Text.{text_base, WordsOf};
+ghost use Rattle.rv_flips.specs.Computing.{Computes};
 ghost use Rattle.rv_flips.specs.Ending.{ending_words, ending_points};
 ghost use Rattle.rv_flips.specs.Survives.{IsListed, Survives};
 ghost use Rattle.rv_flips.specs.Fetching.{Fetches};
@@ -28,4 +29,11 @@ pub fn ending_survives()
 /// whatever flip outside the list comes before, within or after them.
 pub fn three_copies_are_fetched()
     ensures { Fetches }
+{}
+
+/// A law: a word that computes, from two registers or from one and an immediate, makes of operands with one tag a
+/// result with that tag, as of first copies a first copy, wherever it stands and whatever flip outside the list
+/// comes before it. Of code words it says nothing.
+pub fn computing_keeps_the_tag()
+    ensures { Computes }
 {}

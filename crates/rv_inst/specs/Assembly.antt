@@ -1,14 +1,17 @@
 -- The assembly text of an instruction (RISC-V Assembly Programmer's Manual): its name, and its operands by their format.
-use Rattle.std.specs.Prelude.{ℕ, ℤ, List, [], ◌∷◌, ◌++◌, Bool, ◌==◌, ◌||◌, codes, decimal, if◌then◌else◌}
+use Rattle.std.specs.Prelude.{ℕ, ℤ, List, ◌++◌, Bool, true, false, codes, decimal, if◌then◌else◌}
 use Rattle.std.specs.Fmt.{signed_decimal}
 use Rattle.rv_inst.specs.declared.table.Format.{Format}
 use Rattle.rv_inst.specs.declared.table.Format.TheVariants.{Upper, Jump, Immediate, Branch, Store, Register, Shift, ShiftWord, System}
+use Rattle.rv_inst.specs.declared.table.Group.{Group}
+use Rattle.rv_inst.specs.declared.table.Group.TheVariants.{RegisterJumps, Loads}
 use Rattle.rv_inst.specs.declared.table.Operands.{Operands}
 use Rattle.rv_inst.specs.declared.table.Kind.{Kind}
 use Rattle.rv_inst.specs.declared.table.Kind.TheVariants.{OpLui, OpAuipc, OpJal, OpJalr, OpBeq, OpBne, OpBlt, OpBge, OpBltu, OpBgeu, OpLb, OpLh, OpLw, OpLd, OpLbu, OpLhu, OpLwu, OpSb, OpSh, OpSw, OpSd, OpAddi, OpSlti, OpSltiu, OpXori, OpOri, OpAndi, OpSlli, OpSrli, OpSrai, OpAdd, OpSll, OpSlt, OpSltu, OpXor, OpSrl, OpOr, OpAnd, OpSub, OpSra, OpMul, OpMulh, OpMulhsu, OpMulhu, OpDiv, OpDivu, OpRem, OpRemu, OpAddiw, OpSlliw, OpSrliw, OpSraiw, OpAddw, OpSllw, OpSrlw, OpSubw, OpSraw, OpMulw, OpDivw, OpDivuw, OpRemw, OpRemuw, OpEcall}
 use Rattle.rv_inst.specs.declared.instruction.Form.{Form}
 use Rattle.rv_inst.specs.Table.{row}
 use Rattle.rv_inst.specs.Forms.{kind_of, operands_of}
+use Rattle.rv_inst.specs.Groups.{group_of}
 
 -- the name of an instruction, in lower case
 abbrev pub name_of : Kind → List ℕ
@@ -85,13 +88,16 @@ abbrev pub address_text : ℤ → ℕ → List ℕ
 address_text offset r = signed_decimal offset ++ (codes "(" ++ (register_text r ++ codes ")"))
 
 -- loads and JALR write their immediate as an address
-abbrev pub is_addressed : ℕ → Bool
-is_addressed opcode = opcode == 0b0000011 || opcode == 0b1100111
+abbrev pub is_addressed : Group → Bool
+is_addressed Loads = true
+is_addressed RegisterJumps = true
+is_addressed _ = false
 
 -- a name, a blank, and operands with commas between them
 abbrev pub three_operands : List ℕ → List ℕ → List ℕ → List ℕ → List ℕ
 three_operands name a b c = name ++ (codes " " ++ (a ++ (codes "," ++ (b ++ (codes "," ++ c)))))
 
+-- the same with two operands
 abbrev pub two_operands : List ℕ → List ℕ → List ℕ → List ℕ
 two_operands name a b = name ++ (codes " " ++ (a ++ (codes "," ++ b)))
 
@@ -101,18 +107,18 @@ immediate_by addressed name o =
     if addressed then two_operands name (register_text o.rd) (address_text o.imm o.rs1)
     else three_operands name (register_text o.rd) (register_text o.rs1) (signed_decimal o.imm)
 
--- the text of a name and its operands, by the format and, of those with an immediate, the opcode
-abbrev pub text_by : Format → ℕ → List ℕ → Operands → List ℕ
-text_by Upper opcode name o = two_operands name (register_text o.rd) (signed_decimal o.imm)
-text_by Jump opcode name o = two_operands name (register_text o.rd) (signed_decimal o.imm)
-text_by Immediate opcode name o = immediate_by (is_addressed opcode) name o
-text_by Branch opcode name o = three_operands name (register_text o.rs1) (register_text o.rs2) (signed_decimal o.imm)
-text_by Store opcode name o = two_operands name (register_text o.rs2) (address_text o.imm o.rs1)
-text_by Register opcode name o = three_operands name (register_text o.rd) (register_text o.rs1) (register_text o.rs2)
-text_by Shift opcode name o = three_operands name (register_text o.rd) (register_text o.rs1) (signed_decimal o.imm)
-text_by ShiftWord opcode name o = three_operands name (register_text o.rd) (register_text o.rs1) (signed_decimal o.imm)
-text_by System opcode name o = name
+-- the text of a name and its operands, by the format and, of those with an immediate, the group
+abbrev pub text_by : Format → Group → List ℕ → Operands → List ℕ
+text_by Upper group name o = two_operands name (register_text o.rd) (signed_decimal o.imm)
+text_by Jump group name o = two_operands name (register_text o.rd) (signed_decimal o.imm)
+text_by Immediate group name o = immediate_by (is_addressed group) name o
+text_by Branch group name o = three_operands name (register_text o.rs1) (register_text o.rs2) (signed_decimal o.imm)
+text_by Store group name o = two_operands name (register_text o.rs2) (address_text o.imm o.rs1)
+text_by Register group name o = three_operands name (register_text o.rd) (register_text o.rs1) (register_text o.rs2)
+text_by Shift group name o = three_operands name (register_text o.rd) (register_text o.rs1) (signed_decimal o.imm)
+text_by ShiftWord group name o = three_operands name (register_text o.rd) (register_text o.rs1) (signed_decimal o.imm)
+text_by System group name o = name
 
 -- the text of an instruction
 abbrev pub text_of : Form → List ℕ
-text_of i = text_by ((row (kind_of i)).format) ((row (kind_of i)).opcode) (name_of (kind_of i)) (operands_of i)
+text_of i = text_by ((row (kind_of i)).format) (group_of (kind_of i)) (name_of (kind_of i)) (operands_of i)

@@ -1,5 +1,6 @@
 pub mod Table
 pub mod Forms
+pub mod Groups
 pub mod Format
 pub mod Word
 pub mod Registers

@@ -3,8 +3,10 @@
 use Rattle.std.specs.Prelude.{◌≡◌, ℕ, ◌+◌, ◌*◌, ◌%◌, ◌^◌, ◌≤◌, ℤ, pos, negsuc, Bool, true, false, IsTrue, not, ◌==◌, nat_lt, ◌&&◌, ◌||◌, ◌⊎◌, List, [], ◌∷◌, ◌++◌, length, Option, Some, None, slice_get, All, Any}
 use Rattle.rv_inst.specs.declared.instruction.Form.{Form}
 use Rattle.rv_inst.specs.declared.instruction.Form.TheVariants.{LUI, JAL, BEQ, BNE, ADDI, ECALL}
-use Rattle.rv_inst.specs.Table.{row}
+use Rattle.rv_inst.specs.declared.table.Group.{Group}
+use Rattle.rv_inst.specs.declared.table.Group.TheVariants.{RegisterJumps, Branches, Loads, Stores, Calls}
 use Rattle.rv_inst.specs.Forms.{kind_of}
+use Rattle.rv_inst.specs.Groups.{group_of}
 use Rattle.rv_inst.specs.Format.{bits_of}
 use Rattle.rv_inst.specs.Word.{form_at}
 use Rattle.rv_inst.specs.Registers.{reads, writes}
@@ -41,25 +43,47 @@ IsQuietPath words base [] = Unit {0}
 IsQuietPath words base (p ∷ []) = IsPlace words base p
 IsQuietPath words base (p ∷ q ∷ path) = IsPlace words base p × (quiet_next p ≡ q.address) × IsQuietPath words base (q ∷ path)
 
--- the major opcode
-abbrev pub opcode_of : Form → ℕ
-opcode_of i = (row (kind_of i)).opcode
-
+-- a load
 abbrev pub is_load : Form → Bool
-is_load i = opcode_of i == 0b0000011
+is_load i = is_loads (group_of (kind_of i))
+  where
+    is_loads : Group → Bool
+    is_loads Loads = true
+    is_loads _ = false
 
+-- a store
 abbrev pub is_store : Form → Bool
-is_store i = opcode_of i == 0b0100011
+is_store i = is_stores (group_of (kind_of i))
+  where
+    is_stores : Group → Bool
+    is_stores Stores = true
+    is_stores _ = false
 
+-- a branch
 abbrev pub is_branch : Form → Bool
-is_branch i = opcode_of i == 0b1100011
+is_branch i = is_branches (group_of (kind_of i))
+  where
+    is_branches : Group → Bool
+    is_branches Branches = true
+    is_branches _ = false
 
+-- a jump to where a register points
 abbrev pub is_register_jump : Form → Bool
-is_register_jump i = opcode_of i == 0b1100111
+is_register_jump i = is_register_jumps (group_of (kind_of i))
+  where
+    is_register_jumps : Group → Bool
+    is_register_jumps RegisterJumps = true
+    is_register_jumps _ = false
 
+-- a call of the environment
 abbrev pub is_ecall : Form → Bool
-is_ecall i = opcode_of i == 0b1110011
+is_ecall i = is_calls (group_of (kind_of i))
+  where
+    is_calls : Group → Bool
+    is_calls Calls = true
+    is_calls _ = false
 
+-- the immediate is this number
 abbrev pub is_number : ℕ → ℤ → Bool
 is_number n (pos k) = k == n
 is_number n (negsuc k) = false

@@ -5,10 +5,10 @@ ghost use Rattle.rv_inst.specs.Assembly.{name_of, is_addressed, immediate_by, te
 
 use crate::forms::{kind_of, operands_of};
 use crate::instruction::Rv;
-use crate::table::{Format, Kind, Operands, row_of};
+use crate::table::{Format, Group, Kind, Operands, group_of, row_of};
 use std::alloc::{AllocError, Global};
 
-/// The name of an instruction, in lower case.
+/// Returns the name of an instruction, in lower case.
 fn name_of(kind: Kind) -> &'static str
     ensures { result.now ≡ name_of kind }
 {
@@ -79,14 +79,14 @@ fn name_of(kind: Kind) -> &'static str
     }
 }
 
-/// Whether an instruction with an immediate writes it as an address: loads and `JALR` do.
-fn is_addressed(opcode: u8) -> bool
-    ensures { result ≡ is_addressed opcode }
+/// Returns whether an instruction with an immediate writes it as an address: loads and `JALR` do.
+fn is_addressed(group: Group) -> bool
+    ensures { result ≡ is_addressed group }
 {
-    opcode == 0b0000011 || opcode == 0b1100111
+    matches!(group, Group::Loads | Group::RegisterJumps)
 }
 
-/// The text of an instruction with an immediate.
+/// Returns the text of an instruction with an immediate.
 fn immediate_text(
     alloc: Global,
     addressed: bool,
@@ -103,21 +103,21 @@ fn immediate_text(
     }
 }
 
-/// The text of a name and its operands, by their format.
+/// Returns the text of a name and its operands, by their format.
 fn text_by(
     alloc: Global,
     format: Format,
-    opcode: u8,
+    group: Group,
     name: &str,
     operands: Operands,
 ) -> Result<String, AllocError>
-    ensures { IfOk result (λ text. string_bytes text ≡ text_by format opcode name.now operands) }
+    ensures { IfOk result (λ text. string_bytes text ≡ text_by format group name.now operands) }
 {
     let Operands { rd, rs1, rs2, imm } = operands;
     match format {
         Format::Upper => format!(in alloc; "{name} x{rd},{imm}"),
         Format::Jump => format!(in alloc; "{name} x{rd},{imm}"),
-        Format::Immediate => immediate_text(alloc, is_addressed(opcode), name, operands),
+        Format::Immediate => immediate_text(alloc, is_addressed(group), name, operands),
         Format::Branch => format!(in alloc; "{name} x{rs1},x{rs2},{imm}"),
         Format::Store => format!(in alloc; "{name} x{rs2},{imm}(x{rs1})"),
         Format::Register => format!(in alloc; "{name} x{rd},x{rs1},x{rs2}"),
@@ -127,22 +127,21 @@ fn text_by(
     }
 }
 
-/// The assembly text of an instruction, as `addi x1,x2,-5`, `ld x1,8(x2)` or `beq x1,x2,8`: registers by
+/// Returns the assembly text of an instruction, as `addi x1,x2,-5`, `ld x1,8(x2)` or `beq x1,x2,8`: registers by
 /// their numbers, offsets in bytes, and the 20-bit field of `lui` and `auipc` unsigned.
 ///
 /// # Errors
 ///
-/// Only where memory is wanting.
+/// Only where memory runs out.
 pub fn text(alloc: Global, i: &Rv) -> Result<Vec<u8>, AllocError>
     ensures { IfOk result (λ text. text.items ≡ text_of i.now) }
 {
     let form = i.form();
     let kind = kind_of(form);
-    let row = row_of(kind);
     let text = text_by(
         alloc,
-        row.format,
-        row.opcode,
+        row_of(kind).format,
+        group_of(kind),
         name_of(kind),
         operands_of(form),
     )?;

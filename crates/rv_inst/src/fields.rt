@@ -8,7 +8,7 @@ ghost use Rattle.rv_inst.specs.Word.{FitsFormat, IsBelow, IsSigned, IsEven};
 use crate::forms::{with_none, with_rd, with_rd_rs1, with_registers, with_sources};
 use crate::table::{Fields, Format, Operands, Row};
 
-// The fields of a word.
+// Returns the fields of a word.
 pub fn cut(word: u32) -> Fields
     ensures { result ≡ fields_at word }
 {
@@ -23,7 +23,7 @@ pub fn cut(word: u32) -> Fields
     }
 }
 
-// The word of these fields.
+// Returns the word of these fields.
 pub fn join(f: Fields) -> u32
     requires { IsCut f }
     ensures { result ≡ number f }
@@ -37,7 +37,7 @@ pub fn join(f: Fields) -> u32
         + 0x400_0000 * u32::from(f.top6)
 }
 
-// Two's complement of `2 * half` values.
+// Returns the two's complement of a number of `2 * half` values.
 fn bits(half: u32, value: i32) -> u32
     requires small { half ≤ 2 ^ 20 }
     requires fits { IsSigned half value }
@@ -52,7 +52,7 @@ fn bits(half: u32, value: i32) -> u32
     }
 }
 
-// The number that these bits mean.
+// Returns the number that these bits mean.
 fn signed(half: u32, bits: u32) -> i32
     requires small { half ≤ 2 ^ 20 }
     requires fits { bits < 2 * half }
@@ -65,7 +65,7 @@ fn signed(half: u32, bits: u32) -> i32
     }
 }
 
-// The fields of an instruction.
+// Returns the fields of an instruction.
 pub fn fields_for(row: Row, o: Operands) -> Fields
     requires row { IsRow row }
     requires operands { FitsFormat row.format o }
@@ -218,7 +218,7 @@ fn shift_word_fields(row: Row, o: Operands) -> Fields
     }
 }
 
-// The operands of an instruction of this format with these fields.
+// Returns the operands of an instruction of this format with these fields.
 pub fn operands_from(format: Format, f: Fields) -> Operands
     requires { IsCut f }
     ensures { result ≡ operands_in format f }
@@ -277,7 +277,7 @@ fn branch_immediate(f: Fields) -> i32
     signed(0x1000, n)
 }
 
-// The 12 bits of an immediate whose lowest five are given.
+// Returns the 12 bits of an immediate whose lowest five are given.
 fn high_bits(low: u8, f: Fields) -> u32
     requires low { low < 32 }
     requires cut { IsCut f }
@@ -287,7 +287,7 @@ fn high_bits(low: u8, f: Fields) -> u32
     u32::from(low) + 0x20 * u32::from(f.bit25) + 0x40 * u32::from(f.top6)
 }
 
-// Whether the registers and the immediate are in the format's ranges.
+// Returns whether the registers and the immediate are in the format's ranges.
 pub fn operands_fit(format: Format, o: Operands) -> bool
     ensures { IsTrue result ↔ FitsFormat format o }
 {

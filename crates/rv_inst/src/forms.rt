@@ -6,7 +6,7 @@ ghost use Rattle.rv_inst.specs.Forms.{kind_of, operands_of, form_of, of_rd, of_r
 use crate::instruction::Form;
 use crate::table::{Kind, Operands};
 
-// Which instruction a form is.
+/// Returns the instruction of a form, without its operands.
 pub fn kind_of(form: Form) -> Kind
     ensures { result ≡ kind_of form }
 {
@@ -77,7 +77,7 @@ pub fn kind_of(form: Form) -> Kind
     }
 }
 
-// The operands of a form.
+/// Returns the operands of a form, 0 where it has none.
 pub fn operands_of(form: Form) -> Operands
     ensures { result ≡ operands_of form }
 {
@@ -148,7 +148,7 @@ pub fn operands_of(form: Form) -> Operands
     }
 }
 
-// The form of a kind with these operands.
+// Returns the form of an instruction with these operands.
 pub fn form_of(kind: Kind, operands: Operands) -> Form
     ensures { result ≡ form_of kind operands }
 {

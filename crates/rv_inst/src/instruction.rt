@@ -1,11 +1,14 @@
 // An instruction of RV64I or the M extension, in its parts.
 
-ghost use Rattle.std.specs.Prelude.{◌≡◌, ◌↔◌, IsSome, IfSome};
-ghost use Rattle.rv_inst.specs.Word.{Fits};
+ghost use Rattle.std.specs.Prelude.{◌≡◌, ◌↔◌, ◌^◌, IsSome, IfSome};
+ghost use Rattle.rv_inst.specs.declared.table.Group.TheVariants.{Addresses, Constants};
+ghost use Rattle.rv_inst.specs.Forms.{kind_of, operands_of};
+ghost use Rattle.rv_inst.specs.Groups.{HasRegisters, group_of};
+ghost use Rattle.rv_inst.specs.Word.{Fits, IsBelow};
 
 use crate::fields::operands_fit;
 use crate::forms::{kind_of, operands_of};
-use crate::table::row_of;
+use crate::table::{Operands, row_of};
 use std::marker::Model;
 
 /// An instruction of RV64I or the M extension (RISC-V Unprivileged ISA), by its name there. Its fields
@@ -100,7 +103,7 @@ impl Model for Rv {
 }
 
 impl Rv {
-    /// The instruction of this form, where its registers and its immediate are in their ranges.
+    /// Returns the instruction of this form, where its registers and its immediate are in their ranges.
     pub fn new(form: Form) -> Option<Rv>
         ensures fits { IsSome result ↔ Fits form }
         ensures same { IfSome result (λ i. i ≡ form) }
@@ -112,7 +115,7 @@ impl Rv {
         }
     }
 
-    /// The instruction of a form that is in its ranges.
+    /// Returns the instruction of a form that is in its ranges.
     pub fn from_form(form: Form) -> Rv
         requires { Fits form }
         ensures { result ≡ form }
@@ -120,11 +123,22 @@ impl Rv {
         Rv { form }
     }
 
-    /// The form of this instruction.
+    /// Returns the form of this instruction.
     pub fn form(&self) -> Form
         ensures same { result ≡ self.now }
         ensures fits { Fits result }
     {
         self.form
+    }
+
+    /// Returns the operands of this instruction, 0 where it has none.
+    #[tactic(auto, using(crate::proofs::GroupLemmas::registers_fit, crate::proofs::GroupLemmas::constant_fits, crate::proofs::GroupLemmas::address_fits))]
+    pub fn operands(&self) -> Operands
+        ensures same { result ≡ operands_of self.now }
+        ensures registers { HasRegisters result }
+        ensures constant { group_of (kind_of self.now) ≡ Constants → IsBelow (2 ^ 20) result.imm }
+        ensures address { group_of (kind_of self.now) ≡ Addresses → IsBelow (2 ^ 20) result.imm }
+    {
+        operands_of(self.form)
     }
 }

@@ -13,5 +13,7 @@ mod tests;
 mod words;
 
 pub use assembly::text;
+pub use forms::{kind_of, operands_of};
 pub use instruction::{Form, Rv};
+pub use table::{Group, Kind, Operands, group_of};
 pub use words::{decode, encode, reads, words_are_distinct, writes};

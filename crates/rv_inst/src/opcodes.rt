@@ -5,7 +5,7 @@ ghost use Rattle.rv_inst.specs.Opcodes.{chosen, branches, loads, stores, left_sh
 
 use crate::table::{Fields, Kind};
 
-// The instruction of these fields, None where the table has none.
+// Returns the instruction of these fields, None where the table has none.
 pub fn kind_of_fields(f: Fields) -> Option<Kind>
     ensures { result ≡ kind_by_opcode f }
 {
@@ -26,7 +26,7 @@ pub fn kind_of_fields(f: Fields) -> Option<Kind>
     }
 }
 
-// The loads.
+// Returns the load of a funct3.
 fn load(funct3: u8) -> Option<Kind>
     ensures { result ≡ chosen funct3 loads }
 {
@@ -42,7 +42,7 @@ fn load(funct3: u8) -> Option<Kind>
     }
 }
 
-// The stores.
+// Returns the store of a funct3.
 fn store(funct3: u8) -> Option<Kind>
     ensures { result ≡ chosen funct3 stores }
 {
@@ -55,7 +55,7 @@ fn store(funct3: u8) -> Option<Kind>
     }
 }
 
-// The conditional branches.
+// Returns the conditional branch of a funct3.
 fn branch(funct3: u8) -> Option<Kind>
     ensures { result ≡ chosen funct3 branches }
 {
@@ -70,7 +70,7 @@ fn branch(funct3: u8) -> Option<Kind>
     }
 }
 
-// The jump to a register.
+// Returns the jump to a register.
 fn jump_to_register(funct3: u8) -> Option<Kind>
     ensures { result ≡ chosen funct3 ((0, Some Kind.OpJalr) ∷ []) }
 {
@@ -80,7 +80,7 @@ fn jump_to_register(funct3: u8) -> Option<Kind>
     }
 }
 
-// Operations with an immediate.
+// Returns the operation with an immediate.
 fn immediate(funct3: u8, top6: u8) -> Option<Kind>
     ensures { result ≡ chosen funct3 (immediates top6) }
 {
@@ -97,7 +97,7 @@ fn immediate(funct3: u8, top6: u8) -> Option<Kind>
     }
 }
 
-// The left shift by a constant.
+// Returns the left shift by a constant.
 fn left_shift(top6: u8) -> Option<Kind>
     ensures { result ≡ chosen top6 left_shifts }
 {
@@ -107,7 +107,7 @@ fn left_shift(top6: u8) -> Option<Kind>
     }
 }
 
-// The right shifts by a constant.
+// Returns the right shift by a constant.
 fn right_shift(top6: u8) -> Option<Kind>
     ensures { result ≡ chosen top6 right_shifts }
 {
@@ -118,7 +118,7 @@ fn right_shift(top6: u8) -> Option<Kind>
     }
 }
 
-// Operations on words with an immediate.
+// Returns the operation on words with an immediate.
 fn word_immediate(funct3: u8, bit25: u8, top6: u8) -> Option<Kind>
     ensures { result ≡ chosen funct3 (word_immediates bit25 top6) }
 {
@@ -130,7 +130,7 @@ fn word_immediate(funct3: u8, bit25: u8, top6: u8) -> Option<Kind>
     }
 }
 
-// The left shift of a word by a constant, whose amount has five bits.
+// Returns the left shift of a word by a constant, whose amount has five bits.
 fn left_word_shift(bit25: u8, top6: u8) -> Option<Kind>
     ensures { result ≡ chosen bit25 ((0, chosen top6 left_word_shifts) ∷ []) }
 {
@@ -143,7 +143,7 @@ fn left_word_shift(bit25: u8, top6: u8) -> Option<Kind>
     }
 }
 
-// The right shifts of a word by a constant, whose amount has five bits.
+// Returns the right shift of a word by a constant, whose amount has five bits.
 fn right_word_shift(bit25: u8, top6: u8) -> Option<Kind>
     ensures { result ≡ chosen bit25 ((0, chosen top6 right_word_shifts) ∷ []) }
 {
@@ -157,7 +157,7 @@ fn right_word_shift(bit25: u8, top6: u8) -> Option<Kind>
     }
 }
 
-// Operations of two registers.
+// Returns the operation of two registers.
 fn registers(f: Fields) -> Option<Kind>
     ensures { result ≡ chosen f.bit25 (by_bit25 plain negated multiplying f) }
 {
@@ -175,7 +175,7 @@ fn registers(f: Fields) -> Option<Kind>
     }
 }
 
-// Operations of two registers on words.
+// Returns the operation of two registers on words.
 fn word_registers(f: Fields) -> Option<Kind>
     ensures { result ≡ chosen f.bit25 (by_bit25 plain_words negated_words multiplying_words f) }
 {
@@ -193,7 +193,7 @@ fn word_registers(f: Fields) -> Option<Kind>
     }
 }
 
-// Those with funct7 0.
+// Returns the one with funct7 0.
 fn plain_operation(funct3: u8) -> Option<Kind>
     ensures { result ≡ chosen funct3 plain }
 {
@@ -210,7 +210,7 @@ fn plain_operation(funct3: u8) -> Option<Kind>
     }
 }
 
-// Those with funct7 0100000.
+// Returns the one with funct7 0100000.
 fn negated_operation(funct3: u8) -> Option<Kind>
     ensures { result ≡ chosen funct3 negated }
 {
@@ -221,7 +221,7 @@ fn negated_operation(funct3: u8) -> Option<Kind>
     }
 }
 
-// Those of the M extension.
+// Returns the one of the M extension.
 fn multiplying_operation(funct3: u8) -> Option<Kind>
     ensures { result ≡ chosen funct3 multiplying }
 {
@@ -238,7 +238,7 @@ fn multiplying_operation(funct3: u8) -> Option<Kind>
     }
 }
 
-// Those on words with funct7 0.
+// Returns the one on words with funct7 0.
 fn plain_word_operation(funct3: u8) -> Option<Kind>
     ensures { result ≡ chosen funct3 plain_words }
 {
@@ -250,7 +250,7 @@ fn plain_word_operation(funct3: u8) -> Option<Kind>
     }
 }
 
-// Those on words with funct7 0100000.
+// Returns the one on words with funct7 0100000.
 fn negated_word_operation(funct3: u8) -> Option<Kind>
     ensures { result ≡ chosen funct3 negated_words }
 {
@@ -261,7 +261,7 @@ fn negated_word_operation(funct3: u8) -> Option<Kind>
     }
 }
 
-// Those on words of the M extension.
+// Returns the one on words of the M extension.
 fn multiplying_word_operation(funct3: u8) -> Option<Kind>
     ensures { result ≡ chosen funct3 multiplying_words }
 {
@@ -275,7 +275,7 @@ fn multiplying_word_operation(funct3: u8) -> Option<Kind>
     }
 }
 
-// The one system instruction: every field but the opcode is 0.
+// Returns the one system instruction: every field but the opcode is 0.
 fn system_call(f: Fields) -> Option<Kind>
     ensures { result ≡ system f }
 {

@@ -3,6 +3,7 @@
 ghost use Rattle.std.specs.Prelude.{◌≡◌};
 ghost use Rattle.rv_inst.specs.Table.{row};
 ghost use Rattle.rv_inst.specs.Format.{IsRow};
+ghost use Rattle.rv_inst.specs.Groups.{group_at, group_of};
 
 /// An instruction of the table, without its operands.
 #[derive(Clone, Copy, Debug)]
@@ -95,6 +96,31 @@ pub enum Format {
     System,
 }
 
+/// A group of instructions that act alike.
+#[derive(Clone, Copy, Debug)]
+pub enum Group {
+    /// `LUI`, which makes a constant.
+    Constants,
+    /// `AUIPC`, which makes an address from the pc.
+    Addresses,
+    /// `JAL`, which jumps to an offset.
+    Jumps,
+    /// `JALR`, which jumps to where a register points.
+    RegisterJumps,
+    /// A branch on a test of two registers.
+    Branches,
+    /// A load.
+    Loads,
+    /// A store.
+    Stores,
+    /// An operation on a register and an immediate.
+    Immediates,
+    /// An operation on two registers.
+    Registers,
+    /// `ECALL`, which calls the environment.
+    Calls,
+}
+
 /// What is fixed in an instruction's word. The seven bits of funct7 are kept as the lowest (bit 25 of
 /// the word) and the six above, since a shift by six bits fixes the six alone.
 #[derive(Clone, Copy, Debug)]
@@ -127,7 +153,32 @@ pub struct Fields {
     pub top6: u8,
 }
 
-/// The row of an instruction.
+/// Returns the group of an instruction.
+pub fn group_of(kind: Kind) -> Group
+    ensures { result ≡ group_of kind }
+{
+    group_at(row_of(kind).opcode)
+}
+
+// Returns the group of a major opcode.
+fn group_at(opcode: u8) -> Group
+    ensures { result ≡ group_at opcode }
+{
+    match opcode {
+        0b0110111 => Group::Constants,
+        0b0010111 => Group::Addresses,
+        0b1101111 => Group::Jumps,
+        0b1100111 => Group::RegisterJumps,
+        0b1100011 => Group::Branches,
+        0b0000011 => Group::Loads,
+        0b0100011 => Group::Stores,
+        0b0010011 | 0b0011011 => Group::Immediates,
+        0b0110011 | 0b0111011 => Group::Registers,
+        _ => Group::Calls,
+    }
+}
+
+/// Returns the row of an instruction.
 pub fn row_of(kind: Kind) -> Row
     ensures value { result ≡ row kind }
     ensures in_range { IsRow result }
@@ -199,7 +250,7 @@ pub fn row_of(kind: Kind) -> Row
     }
 }
 
-// A row from its parts.
+// Returns a row of these parts.
 fn fixed(format: Format, opcode: u8, funct3: u8, bit25: u8, top6: u8) -> Row
     ensures { result ≡
         record { format = format; opcode = opcode; funct3 = funct3; bit25 = bit25; top6 = top6 } }

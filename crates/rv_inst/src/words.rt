@@ -11,7 +11,7 @@ use crate::instruction::{Form, Rv};
 use crate::opcodes::kind_of_fields;
 use crate::table::{Format, Operands, row_of};
 
-/// The word of an instruction: the only one that it has.
+/// Returns the word of an instruction: the only one that it has.
 pub fn encode(i: &Rv) -> u32
     ensures { (w : ℕ) → Word w i.now ↔ (w ≡ result) }
 {
@@ -20,7 +20,7 @@ pub fn encode(i: &Rv) -> u32
     join(fields_for(row, operands_of(form)))
 }
 
-/// The instruction of a word, `None` exactly where the table has none.
+/// Returns the instruction of a word, `None` exactly where the table has none.
 pub fn decode(word: u32) -> Option<Rv>
     ensures exact { (i : Form) → (result ≡ Some i) ↔ Word word i }
     ensures computed { result ≡ form_at word }
@@ -31,7 +31,7 @@ pub fn decode(word: u32) -> Option<Rv>
     }
 }
 
-// The form of a word's instruction.
+// Returns the form of a word's instruction.
 fn form_in_word(word: u32) -> Option<Form>
     ensures { result ≡ form_at word }
 {
@@ -42,7 +42,7 @@ fn form_in_word(word: u32) -> Option<Form>
     }
 }
 
-/// Whether the instruction reads register `r`. `ECALL` reads x10, x11, x12 and x17. No instruction
+/// Returns whether the instruction reads register `r`. `ECALL` reads x10, x11, x12 and x17. No instruction
 /// reads x0, which is always 0.
 pub fn reads(i: &Rv, r: u8) -> bool
     ensures { result ≡ reads i.now r }
@@ -51,7 +51,7 @@ pub fn reads(i: &Rv, r: u8) -> bool
     r > 0 && is_source(row_of(kind_of(form)).format, operands_of(form), r)
 }
 
-/// Whether the instruction writes register `r`. `ECALL` writes x10. No instruction writes x0.
+/// Returns whether the instruction writes register `r`. `ECALL` writes x10. No instruction writes x0.
 pub fn writes(i: &Rv, r: u8) -> bool
     ensures { result ≡ writes i.now r }
 {
@@ -59,6 +59,7 @@ pub fn writes(i: &Rv, r: u8) -> bool
     r > 0 && is_target(row_of(kind_of(form)).format, operands_of(form), r)
 }
 
+// Returns whether an instruction of this format reads `r`.
 fn is_source(format: Format, o: Operands, r: u8) -> bool
     ensures { result ≡ sources format o r }
 {
@@ -70,6 +71,7 @@ fn is_source(format: Format, o: Operands, r: u8) -> bool
     }
 }
 
+// Returns whether an instruction of this format writes `r`.
 fn is_target(format: Format, o: Operands, r: u8) -> bool
     ensures { result ≡ target format o r }
 {
@@ -80,7 +82,7 @@ fn is_target(format: Format, o: Operands, r: u8) -> bool
     }
 }
 
-/// A law of the table: no word has two instructions, and no instruction two words.
+/// States a law of the table: no word has two instructions, and no instruction two words.
 pub fn words_are_distinct()
     ensures one_instruction { (w : ℕ) (i j : Form) → Word w i → Word w j → i ≡ j }
     ensures one_word { (v w : ℕ) (i : Form) → Word v i → Word w i → v ≡ w }

@@ -1,4 +1,3 @@
-pub mod Groups
 pub mod Numbers
 pub mod Outcomes
 pub mod Ticks

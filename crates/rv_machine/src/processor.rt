@@ -1,29 +1,24 @@
 //! The machine, and one step of it.
 
-ghost use Rattle.std.specs.Prelude.{◌≡◌, ◌*◌, ◌^◌, ◌<◌, ◌≤◌, Some, None, map, IfNone, IfOk, IfSome, IsFalse, OnErr};
-ghost use Rattle.rv_inst.specs.Word.{Fits};
+ghost use Rattle.std.specs.Prelude.{◌≡◌, ◌<◌, ◌≤◌, Some, None, map, IfNone, IfOk, IfSome, OnErr};
 ghost use Rattle.byteorder.specs.Endian.{little_bytes};
-ghost use Rattle.rv_machine.specs.Groups.{is_access, is_call, is_immediate, is_jump, is_on_words, is_register};
+ghost use Rattle.rv_inst.specs.declared.table.Group.TheVariants.{Loads};
+ghost use Rattle.rv_inst.specs.Groups.{group_of};
 ghost use Rattle.rv_machine.specs.Numbers.{HasNumber};
 ghost use Rattle.rv_machine.specs.Ticks.{IsTick, PutsOut};
 ghost use Rattle.rv_model.specs.Memory.{bytes_at, read, stored, word_at};
 ghost use Rattle.rv_model.specs.Run.{flipped};
 ghost use Rattle.rv_model.specs.Start.{loaded_segment, started};
 ghost use Rattle.rv_model.specs.State.{next, register, set_register};
-ghost use Rattle.rv_model.specs.Step.{act, address, called, fetched, kept, linked, loaded, reads_input, sign_extended, writes_output, Continues, branched, put, step};
+ghost use Rattle.rv_model.specs.Step.{act, address, called, fetched, kept, linked, loads, reads_input, writes_output, Continues, branched, put, step};
 
 use crate::memory::{EXECUTED, MemorySegment, READ, bytes_at, bytes_for, keep, store};
-use crate::operations::{
-    even_part, high_mixed, high_signed, high_unsigned, less_signed, minus32, plus32, quotient,
-    quotient_unsigned, quotient_unsigned32, quotient32, remainder, remainder_unsigned,
-    remainder_unsigned32, remainder32, shifted_left, shifted_left32, shifted_right,
-    shifted_right32, shifted_signed, shifted_signed32, times32, truth,
-};
+use crate::operations::{even_part, extended, is_taken, operation, width};
 use crate::streams::{Input, Output};
-use crate::values::{bits64, number, shift_amount, sign_extended, upper_value};
+use crate::values::{bits64, number, upper_value};
 use byteorder::{ByteOrder, LittleEndian};
 use elf_file::{Image, Segment};
-use rv_inst::{Form, decode};
+use rv_inst::{Group, Kind, Operands, Rv, decode, group_of, kind_of};
 use rv_model::Cause;
 use std::alloc::{AllocError, Global};
 use std::marker::Model;
@@ -161,292 +156,45 @@ impl Machine {
         ensures wants { OnErr result (PutsOut (fetched (Some word) self.old) self.old) }
     {
         match decode(word) {
-            Some(instruction) => self.act(instruction.form()),
+            Some(instruction) => self.act(&instruction),
             None => Ok(Tick::Trapped(self.pc(), Cause::Illegal)),
         }
     }
 
     /// Executes an instruction.
     #[tactic(auto, unfolding(rv_model::specs::Step::act))]
-    fn act(&mut self, form: Form) -> Result<Tick, AllocError>
-        requires { Fits form }
-        ensures ok { IfOk result (λ tick. IsTick tick (act form self.old) self.old self.new) }
+    fn act(&mut self, instruction: &Rv) -> Result<Tick, AllocError>
+        ensures ok { IfOk result (λ tick. IsTick tick (act instruction.now self.old) self.old self.new) }
         ensures err { OnErr result (self.new ≡ self.old) }
-        ensures wants { OnErr result (PutsOut (act form self.old) self.old) }
+        ensures wants { OnErr result (PutsOut (act instruction.now self.old) self.old) }
     {
-        match form {
-            Form::ECALL => self.call(),
-            _ => Ok(self.go(form)),
-        }
-    }
-
-    /// Executes a jump, a branch or an instruction that goes on at the next word.
-    #[tactic(auto, unfolding(rv_model::specs::Step::act))]
-    fn go(&mut self, form: Form) -> Tick
-        requires fits { Fits form }
-        requires no_call { IsFalse (is_call form) }
-        ensures { IsTick result (act form self.old) self.old self.new }
-    {
-        match form {
-            Form::JAL(rd, offset) => {
-                let target = self.pc().wrapping_add(bits64(offset));
-                self.link(rd, target)
-            }
-            Form::JALR(rd, rs1, imm) => {
+        let kind = kind_of(instruction.form());
+        let Operands { rd, rs1, rs2, imm } = instruction.operands();
+        match group_of(kind) {
+            Group::Constants => Ok(self.put(rd, upper_value(imm))),
+            Group::Addresses => Ok(self.put(rd, self.pc().wrapping_add(upper_value(imm)))),
+            Group::Jumps => Ok(self.link(rd, self.pc().wrapping_add(bits64(imm)))),
+            Group::RegisterJumps => {
                 let target = even_part(self.register(rs1).wrapping_add(bits64(imm)));
-                self.link(rd, target)
+                Ok(self.link(rd, target))
             }
-            Form::BEQ(rs1, rs2, offset) => {
-                let test = self.register(rs1) == self.register(rs2);
-                self.branch(test, offset)
+            Group::Branches => {
+                let test = is_taken(kind, self.register(rs1), self.register(rs2));
+                Ok(self.branch(test, imm))
             }
-            Form::BNE(rs1, rs2, offset) => {
-                let test = self.register(rs1) != self.register(rs2);
-                self.branch(test, offset)
+            Group::Loads => Ok(self.load_register(kind, rd, self.address(rs1, imm))),
+            Group::Stores => {
+                let count = usize::from(width(kind));
+                Ok(self.store(self.address(rs1, imm), self.register(rs2), count))
             }
-            Form::BLT(rs1, rs2, offset) => {
-                let test = less_signed(self.register(rs1), self.register(rs2));
-                self.branch(test, offset)
+            Group::Immediates => {
+                Ok(self.put(rd, operation(kind, self.register(rs1), bits64(imm))))
             }
-            Form::BGE(rs1, rs2, offset) => {
-                let test = !less_signed(self.register(rs1), self.register(rs2));
-                self.branch(test, offset)
+            Group::Registers => {
+                let value = operation(kind, self.register(rs1), self.register(rs2));
+                Ok(self.put(rd, value))
             }
-            Form::BLTU(rs1, rs2, offset) => {
-                let test = self.register(rs1) < self.register(rs2);
-                self.branch(test, offset)
-            }
-            Form::BGEU(rs1, rs2, offset) => {
-                let test = self.register(rs1) >= self.register(rs2);
-                self.branch(test, offset)
-            }
-            _ => self.access_or_compute(form),
-        }
-    }
-
-    /// Executes a load, a store, or an instruction that computes.
-    #[tactic(auto, unfolding(rv_model::specs::Step::act))]
-    fn access_or_compute(&mut self, form: Form) -> Tick
-        requires fits { Fits form }
-        requires no_call { IsFalse (is_call form) }
-        requires no_jump { IsFalse (is_jump form) }
-        ensures { IsTick result (act form self.old) self.old self.new }
-    {
-        match form {
-            Form::LB(rd, rs1, offset) => self.load_signed(rd, self.address(rs1, offset), 1, 1 << 7),
-            Form::LH(rd, rs1, offset) => self.load_signed(
-                rd,
-                self.address(rs1, offset),
-                2,
-                1 << 15,
-            ),
-            Form::LW(rd, rs1, offset) => self.load_signed(
-                rd,
-                self.address(rs1, offset),
-                4,
-                1 << 31,
-            ),
-            Form::LD(rd, rs1, offset) => self.load_unsigned(rd, self.address(rs1, offset), 8),
-            Form::LBU(rd, rs1, offset) => self.load_unsigned(rd, self.address(rs1, offset), 1),
-            Form::LHU(rd, rs1, offset) => self.load_unsigned(rd, self.address(rs1, offset), 2),
-            Form::LWU(rd, rs1, offset) => self.load_unsigned(rd, self.address(rs1, offset), 4),
-            Form::SB(rs1, rs2, offset) => {
-                self.store(self.address(rs1, offset), self.register(rs2), 1)
-            }
-            Form::SH(rs1, rs2, offset) => {
-                self.store(self.address(rs1, offset), self.register(rs2), 2)
-            }
-            Form::SW(rs1, rs2, offset) => {
-                self.store(self.address(rs1, offset), self.register(rs2), 4)
-            }
-            Form::SD(rs1, rs2, offset) => {
-                self.store(self.address(rs1, offset), self.register(rs2), 8)
-            }
-            _ => self.compute(form),
-        }
-    }
-
-    /// Executes an instruction that goes on at the next word.
-    #[tactic(auto, unfolding(rv_model::specs::Step::act))]
-    fn compute(&mut self, form: Form) -> Tick
-        requires fits { Fits form }
-        requires no_call { IsFalse (is_call form) }
-        requires no_jump { IsFalse (is_jump form) }
-        requires no_access { IsFalse (is_access form) }
-        ensures { IsTick result (act form self.old) self.old self.new }
-    {
-        match form {
-            Form::LUI(rd, imm) => self.put(rd, upper_value(imm)),
-            Form::AUIPC(rd, imm) => self.put(rd, self.pc().wrapping_add(upper_value(imm))),
-            Form::ADDI(rd, rs1, imm) => self.put(rd, self.register(rs1).wrapping_add(bits64(imm))),
-            Form::SLTI(rd, rs1, imm) => {
-                self.put(rd, truth(less_signed(self.register(rs1), bits64(imm))))
-            }
-            Form::SLTIU(rd, rs1, imm) => self.put(rd, truth(self.register(rs1) < bits64(imm))),
-            Form::XORI(rd, rs1, imm) => self.put(rd, self.register(rs1) ^ bits64(imm)),
-            Form::ORI(rd, rs1, imm) => self.put(rd, self.register(rs1) | bits64(imm)),
-            Form::ANDI(rd, rs1, imm) => self.put(rd, self.register(rs1) & bits64(imm)),
-            Form::SLLI(rd, rs1, imm) => {
-                self.put(rd, shifted_left(self.register(rs1), shift_amount(imm)))
-            }
-            Form::SRLI(rd, rs1, imm) => {
-                self.put(rd, shifted_right(self.register(rs1), shift_amount(imm)))
-            }
-            Form::SRAI(rd, rs1, imm) => {
-                self.put(rd, shifted_signed(self.register(rs1), shift_amount(imm)))
-            }
-            Form::ADDIW(rd, rs1, imm) => self.put(rd, plus32(self.register(rs1), bits64(imm))),
-            Form::SLLIW(rd, rs1, imm) => {
-                self.put(rd, shifted_left32(self.register(rs1), shift_amount(imm)))
-            }
-            Form::SRLIW(rd, rs1, imm) => {
-                self.put(rd, shifted_right32(self.register(rs1), shift_amount(imm)))
-            }
-            Form::SRAIW(rd, rs1, imm) => {
-                self.put(rd, shifted_signed32(self.register(rs1), shift_amount(imm)))
-            }
-            _ => self.compute_on_registers(form),
-        }
-    }
-
-    /// Executes an operation on two registers.
-    #[tactic(auto, unfolding(rv_model::specs::Step::act))]
-    fn compute_on_registers(&mut self, form: Form) -> Tick
-        requires fits { Fits form }
-        requires no_call { IsFalse (is_call form) }
-        requires no_jump { IsFalse (is_jump form) }
-        requires no_access { IsFalse (is_access form) }
-        requires no_immediate { IsFalse (is_immediate form) }
-        ensures { IsTick result (act form self.old) self.old self.new }
-    {
-        match form {
-            Form::ADD(rd, rs1, rs2) => {
-                self.put(rd, self.register(rs1).wrapping_add(self.register(rs2)))
-            }
-            Form::SUB(rd, rs1, rs2) => {
-                self.put(rd, self.register(rs1).wrapping_sub(self.register(rs2)))
-            }
-            Form::SLL(rd, rs1, rs2) => {
-                self.put(rd, shifted_left(self.register(rs1), self.register(rs2)))
-            }
-            Form::SLT(rd, rs1, rs2) => {
-                self.put(
-                    rd,
-                    truth(less_signed(self.register(rs1), self.register(rs2))),
-                )
-            }
-            Form::SLTU(rd, rs1, rs2) => {
-                self.put(rd, truth(self.register(rs1) < self.register(rs2)))
-            }
-            Form::XOR(rd, rs1, rs2) => { self.put(rd, self.register(rs1) ^ self.register(rs2)) }
-            Form::SRL(rd, rs1, rs2) => {
-                self.put(rd, shifted_right(self.register(rs1), self.register(rs2)))
-            }
-            Form::SRA(rd, rs1, rs2) => {
-                self.put(rd, shifted_signed(self.register(rs1), self.register(rs2)))
-            }
-            Form::OR(rd, rs1, rs2) => { self.put(rd, self.register(rs1) | self.register(rs2)) }
-            Form::AND(rd, rs1, rs2) => { self.put(rd, self.register(rs1) & self.register(rs2)) }
-            _ => self.compute_on_words(form),
-        }
-    }
-
-    /// Executes an operation on the low 32 bits of two registers.
-    #[tactic(auto, unfolding(rv_model::specs::Step::act))]
-    fn compute_on_words(&mut self, form: Form) -> Tick
-        requires fits { Fits form }
-        requires no_call { IsFalse (is_call form) }
-        requires no_jump { IsFalse (is_jump form) }
-        requires no_access { IsFalse (is_access form) }
-        requires no_immediate { IsFalse (is_immediate form) }
-        requires no_register { IsFalse (is_register form) }
-        ensures { IsTick result (act form self.old) self.old self.new }
-    {
-        match form {
-            Form::ADDW(rd, rs1, rs2) => {
-                self.put(rd, plus32(self.register(rs1), self.register(rs2)))
-            }
-            Form::SUBW(rd, rs1, rs2) => {
-                self.put(rd, minus32(self.register(rs1), self.register(rs2)))
-            }
-            Form::SLLW(rd, rs1, rs2) => {
-                self.put(rd, shifted_left32(self.register(rs1), self.register(rs2)))
-            }
-            Form::SRLW(rd, rs1, rs2) => {
-                self.put(rd, shifted_right32(self.register(rs1), self.register(rs2)))
-            }
-            Form::SRAW(rd, rs1, rs2) => {
-                self.put(rd, shifted_signed32(self.register(rs1), self.register(rs2)))
-            }
-            _ => self.multiply(form),
-        }
-    }
-
-    /// Executes an instruction of the M extension.
-    #[tactic(auto, unfolding(rv_model::specs::Step::act))]
-    fn multiply(&mut self, form: Form) -> Tick
-        requires fits { Fits form }
-        requires no_call { IsFalse (is_call form) }
-        requires no_jump { IsFalse (is_jump form) }
-        requires no_access { IsFalse (is_access form) }
-        requires no_immediate { IsFalse (is_immediate form) }
-        requires no_register { IsFalse (is_register form) }
-        requires no_words { IsFalse (is_on_words form) }
-        ensures { IsTick result (act form self.old) self.old self.new }
-    {
-        match form {
-            Form::MUL(rd, rs1, rs2) => {
-                self.put(rd, self.register(rs1).wrapping_mul(self.register(rs2)))
-            }
-            Form::MULH(rd, rs1, rs2) => {
-                self.put(rd, high_signed(self.register(rs1), self.register(rs2)))
-            }
-            Form::MULHSU(rd, rs1, rs2) => {
-                self.put(rd, high_mixed(self.register(rs1), self.register(rs2)))
-            }
-            Form::MULHU(rd, rs1, rs2) => {
-                self.put(rd, high_unsigned(self.register(rs1), self.register(rs2)))
-            }
-            Form::DIV(rd, rs1, rs2) => {
-                self.put(rd, quotient(self.register(rs1), self.register(rs2)))
-            }
-            Form::DIVU(rd, rs1, rs2) => {
-                self.put(
-                    rd,
-                    quotient_unsigned(self.register(rs1), self.register(rs2)),
-                )
-            }
-            Form::REM(rd, rs1, rs2) => {
-                self.put(rd, remainder(self.register(rs1), self.register(rs2)))
-            }
-            Form::REMU(rd, rs1, rs2) => {
-                self.put(
-                    rd,
-                    remainder_unsigned(self.register(rs1), self.register(rs2)),
-                )
-            }
-            Form::MULW(rd, rs1, rs2) => {
-                self.put(rd, times32(self.register(rs1), self.register(rs2)))
-            }
-            Form::DIVW(rd, rs1, rs2) => {
-                self.put(rd, quotient32(self.register(rs1), self.register(rs2)))
-            }
-            Form::DIVUW(rd, rs1, rs2) => {
-                self.put(
-                    rd,
-                    quotient_unsigned32(self.register(rs1), self.register(rs2)),
-                )
-            }
-            Form::REMW(rd, rs1, rs2) => {
-                self.put(rd, remainder32(self.register(rs1), self.register(rs2)))
-            }
-            Form::REMUW(rd, rs1, rs2) => {
-                self.put(
-                    rd,
-                    remainder_unsigned32(self.register(rs1), self.register(rs2)),
-                )
-            }
-            _ => unreachable!(),
+            Group::Calls => self.call(),
         }
     }
 
@@ -469,30 +217,14 @@ impl Machine {
         Some(number(bytes))
     }
 
-    /// Puts the number at the address into a register.
-    fn load_unsigned(&mut self, rd: u8, address: u64, count: u64) -> Tick
+    /// Puts the number at the address into a register, extended to 64 bits.
+    fn load_register(&mut self, kind: Kind, rd: u8, address: u64) -> Tick
+        requires loads { group_of kind ≡ Loads }
         requires rd { rd < 32 }
-        requires low { 1 ≤ count }
-        requires high { count ≤ 8 }
-        ensures { IsTick result (loaded (bytes_at read address count self.old.segments) count (λ n. n) rd self.old) self.old self.new }
+        ensures { IsTick result (loads kind rd address self.old) self.old self.new }
     {
-        match self.number_at(address, count) {
-            Some(number) => self.put(rd, number),
-            None => Tick::Trapped(self.pc(), Cause::Load),
-        }
-    }
-
-    /// Puts the number at the address into a register, extended by its sign; it has twice `half` values.
-    fn load_signed(&mut self, rd: u8, address: u64, count: u64, half: u64) -> Tick
-        requires rd { rd < 32 }
-        requires low { 1 ≤ count }
-        requires high { count ≤ 8 }
-        requires half { half ≤ 2 ^ 32 }
-        requires values { 256 ^ count ≡ 2 * half }
-        ensures { IsTick result (loaded (bytes_at read address count self.old.segments) count (sign_extended half) rd self.old) self.old self.new }
-    {
-        match self.number_at(address, count) {
-            Some(number) => self.put(rd, sign_extended(half, number)),
+        match self.number_at(address, u64::from(width(kind))) {
+            Some(number) => self.put(rd, extended(kind, number)),
             None => Tick::Trapped(self.pc(), Cause::Load),
         }
     }

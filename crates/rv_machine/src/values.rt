@@ -3,19 +3,18 @@
 ghost use Rattle.std.specs.Prelude.{◌≡◌, ◌*◌, ◌^◌, ◌<◌, ◌≤◌, length};
 ghost use Rattle.byteorder.specs.Endian.{little_number};
 ghost use Rattle.rv_inst.specs.Word.{IsBelow};
-ghost use Rattle.rv_inst.specs.Format.{unsigned};
 ghost use Rattle.rv_model.specs.Operations.{bits64, sign_extended, upper_value};
 
 use byteorder::{ByteOrder, LittleEndian};
 
-/// The two's complement of a signed number in 64 bits.
+/// Returns the two's complement of a signed number in 64 bits.
 pub fn bits64(number: i32) -> u64
     ensures { result ≡ bits64 number }
 {
     i64::from(number).cast_unsigned()
 }
 
-/// A number of twice `half` values extended to 64 bits by its sign.
+/// Returns a number of twice `half` values extended to 64 bits by its sign.
 pub fn sign_extended(half: u64, number: u64) -> u64
     requires half { half ≤ 2 ^ 32 }
     requires number { number < 2 * half }
@@ -28,7 +27,7 @@ pub fn sign_extended(half: u64, number: u64) -> u64
     }
 }
 
-/// The value of LUI: its 20 bits above 12 zeros, extended by their sign.
+/// Returns the value of LUI: its 20 bits above 12 zeros, extended by their sign.
 pub fn upper_value(field: i32) -> u64
     requires { IsBelow (2 ^ 20) field }
     ensures { result ≡ upper_value field }
@@ -36,15 +35,7 @@ pub fn upper_value(field: i32) -> u64
     sign_extended(1 << 31, (field as u64) << 12)
 }
 
-/// The amount of a shift by a constant.
-pub fn shift_amount(amount: i32) -> u64
-    requires { IsBelow 64 amount }
-    ensures { result ≡ unsigned amount }
-{
-    amount as u64
-}
-
-/// The number that up to eight bytes make, the lowest first.
+/// Returns the number that up to eight bytes make, the lowest first.
 pub fn number(bytes: &[u8]) -> u64
     requires low { 1 ≤ length bytes.now }
     requires high { length bytes.now ≤ 8 }

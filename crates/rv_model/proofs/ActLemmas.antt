@@ -1,10 +1,15 @@
 -- What each instruction does, as one equation.
-use Rattle.std.proofs.Common.{◌≡◌, ℕ, ◌+◌, ◌-◌, ◌*◌, ◌%◌, ◌<◌, ◌≤◌, ◌^◌, ◌==◌, Bool, true, false, cond, refl, arith}
+use Rattle.std.proofs.Common.{◌≡◌, ℕ, ◌+◌, ◌-◌, ◌*◌, ◌%◌, ◌<◌, ◌≤◌, ◌^◌, ◌==◌, Bool, true, false, cond, refl, ap, arith}
 use Rattle.std.specs.Prelude.{ℤ, pos, negsuc, nat_lt}
+use Rattle.rv_inst.specs.declared.instruction.Form.{Form}
 use Rattle.rv_inst.specs.declared.instruction.Form.TheVariants.{LUI, BEQ, ADDI, ECALL}
+use Rattle.rv_inst.specs.declared.table.Group.TheVariants.{Immediates, Registers}
+use Rattle.rv_inst.specs.Forms.{kind_of, operands_of}
+use Rattle.rv_inst.specs.Groups.{group_of}
 use Rattle.rv_inst.specs.Word.{IsBelow, IsSigned}
 use Rattle.rv_model.specs.State.{MachineState, register, plus64}
-use Rattle.rv_model.specs.Step.{Continues, Ends, bits64, sign_extended, upper_value, put, branched, called, act}
+use Rattle.rv_model.specs.Step.{Continues, Ends, bits64, sign_extended, upper_value, put, branched, called, act_by, act}
+use Rattle.rv_model.specs.Operations.{operation}
 
 pub act-LUI : (rd : ℕ) (imm : ℤ) (s : MachineState) → act (LUI rd imm) s ≡ put rd (upper_value imm) s
 unfolding act
@@ -21,6 +26,18 @@ act-BEQ rs1 rs2 offset s = refl
 pub act-ECALL : (s : MachineState) → act ECALL s ≡ called s
 unfolding act
 act-ECALL s = refl
+
+-- an operation on a register and an immediate
+pub act-immediate : (i : Form) (s : MachineState) → group_of (kind_of i) ≡ Immediates
+    → act i s ≡ put (operands_of i).rd (operation (kind_of i) (register s (operands_of i).rs1) (bits64 (operands_of i).imm)) s
+unfolding act
+act-immediate i s e = ap (λ g. act_by g (kind_of i) (operands_of i) s) e
+
+-- an operation on two registers
+pub act-registers : (i : Form) (s : MachineState) → group_of (kind_of i) ≡ Registers
+    → act i s ≡ put (operands_of i).rd (operation (kind_of i) (register s (operands_of i).rs1) (register s (operands_of i).rs2)) s
+unfolding act
+act-registers i s e = ap (λ g. act_by g (kind_of i) (operands_of i) s) e
 
 -- the call that ends the program
 pub called-ends : (s : MachineState) (n : ℕ) → register s 17 ≡ 93 → register s 10 ≡ n → called s ≡ Ends (n % 256)

@@ -4,3 +4,4 @@ pub mod TextLemmas
 pub mod RunLemmas
 pub mod StartLemmas
 pub mod ActLemmas
+pub mod Widths

@@ -1,13 +1,17 @@
 -- One instruction (RISC-V Unprivileged ISA, RV64I and M), and the three calls of the environment.
-use Rattle.std.specs.Prelude.{ℕ, ℤ, Bool, ◌%◌, ◌^◌, ◌==◌, ◌&&◌, ◌++◌, min, not, nat_lt, nat_le, int_le, List, length, take, drop, Option, Some, None, if◌then◌else◌, bit_and, bit_or, bit_xor}
+use Rattle.std.specs.Prelude.{ℕ, ℤ, Bool, ◌%◌, ◌==◌, ◌&&◌, ◌++◌, min, List, length, take, drop, Option, Some, None, if◌then◌else◌}
 use Rattle.byteorder.specs.Endian.{little_bytes, little_number}
 use Rattle.rv_inst.specs.declared.instruction.Form.{Form}
-use Rattle.rv_inst.specs.declared.instruction.Form.TheVariants.{LUI, AUIPC, JAL, JALR, BEQ, BNE, BLT, BGE, BLTU, BGEU, LB, LH, LW, LD, LBU, LHU, LWU, SB, SH, SW, SD, ADDI, SLTI, SLTIU, XORI, ORI, ANDI, SLLI, SRLI, SRAI, ADD, SUB, SLL, SLT, SLTU, XOR, SRL, SRA, OR, AND, ADDIW, SLLIW, SRLIW, SRAIW, ADDW, SUBW, SLLW, SRLW, SRAW, MUL, MULH, MULHSU, MULHU, DIV, DIVU, REM, REMU, MULW, DIVW, DIVUW, REMW, REMUW, ECALL}
-use Rattle.rv_inst.specs.Format.{unsigned}
+use Rattle.rv_inst.specs.declared.table.Group.{Group}
+use Rattle.rv_inst.specs.declared.table.Group.TheVariants.{Constants, Addresses, Jumps, RegisterJumps, Branches, Loads, Stores, Immediates, Registers, Calls}
+use Rattle.rv_inst.specs.declared.table.Kind.{Kind}
+use Rattle.rv_inst.specs.declared.table.Operands.{Operands}
+use Rattle.rv_inst.specs.Forms.{kind_of, operands_of}
+use Rattle.rv_inst.specs.Groups.{group_of}
 use Rattle.rv_inst.specs.Word.{form_at}
 use Rattle.rv_model.specs.declared.Cause.{Cause}
 use Rattle.rv_model.specs.declared.Cause.TheVariants.{Fetch, Illegal, Load, Store, Call}
-use Rattle.rv_model.specs.Operations.{signed64, minus64, less_signed, truth, even_part, shifted_left, shifted_right, shifted_signed, plus32, minus32, shifted_left32, shifted_right32, shifted_signed32, times64, times32, high_signed, high_mixed, high_unsigned, quotient, quotient_unsigned, remainder, remainder_unsigned, quotient32, quotient_unsigned32, remainder32, remainder_unsigned32}
+use Rattle.rv_model.specs.Operations.{even_part, operation, is_taken, width, extended}
 use Rattle.rv_model.specs.State.{LoadedSegment, MachineState, register, set_register, plus64, jump, next}
 use Rattle.rv_model.specs.Memory.{read, bytes_at, bytes_for, kept_in, stored, word_at}
 pub use Rattle.rv_model.specs.Operations.{bits64, sign_extended, upper_value}
@@ -68,96 +72,42 @@ branched test offset s = jump s (if test then plus64 s.pc (bits64 offset) else p
 abbrev pub linked : ℕ → ℕ → MachineState → StepResult
 linked rd target s = Continues (jump (set_register s rd (plus64 s.pc 4)) target)
 
--- a branch on a test of two registers
-abbrev pub compared : (ℕ → ℕ → Bool) → ℕ → ℕ → ℤ → MachineState → StepResult
-compared test rs1 rs2 offset s = Continues (branched (test (register s rs1) (register s rs2)) offset s)
-
--- rd gets what an operation makes of rs1 and a word
-abbrev pub operated : (ℕ → ℕ → ℕ) → ℕ → ℕ → ℕ → MachineState → StepResult
-operated f rd rs1 b s = put rd (f (register s rs1) b) s
-
 -- the address of a load or a store
 abbrev pub address : ℕ → ℤ → MachineState → ℕ
 address rs1 offset s = plus64 (register s rs1) (bits64 offset)
 
--- a load of count bytes, which are extended to 64 bits
-abbrev pub loads : ℕ → (ℕ → ℕ) → ℕ → ℕ → ℤ → MachineState → StepResult
-loads count extend rd rs1 offset s = loaded (bytes_at read (address rs1 offset s) count s.segments) count extend rd s
+-- a load from the address into rd
+abbrev pub loads : Kind → ℕ → ℕ → MachineState → StepResult
+loads k rd at s = loaded (bytes_at read at (width k) s.segments) (width k) (extended k) rd s
 
--- a store of the lowest count bytes of rs2
-abbrev pub stores : ℕ → ℕ → ℕ → ℤ → MachineState → StepResult
-stores count rs1 rs2 offset s = kept (stored (address rs1 offset s) (little_bytes count (register s rs2)) s.segments) s
+-- a store of the lowest bytes of a value at the address
+abbrev pub stores : Kind → ℕ → ℕ → MachineState → StepResult
+stores k at value s = kept (stored at (little_bytes (width k) value) s.segments) s
+
+-- what an instruction with these operands does, by its group: LUI, AUIPC, JAL and JALR have a group each, and what is computed, tested,
+-- loaded or stored goes by the tables
+abbrev pub act_by : Group → Kind → Operands → MachineState → StepResult
+act_by Constants k o s = put o.rd (upper_value o.imm) s
+act_by Addresses k o s = put o.rd (plus64 s.pc (upper_value o.imm)) s
+act_by Jumps k o s = linked o.rd (plus64 s.pc (bits64 o.imm)) s
+act_by RegisterJumps k o s = linked o.rd (even_part (plus64 (register s o.rs1) (bits64 o.imm))) s
+act_by Branches k o s = Continues (branched (is_taken k (register s o.rs1) (register s o.rs2)) o.imm s)
+act_by Loads k o s = loads k o.rd (address o.rs1 o.imm s) s
+act_by Stores k o s = stores k (address o.rs1 o.imm s) (register s o.rs2) s
+act_by Immediates k o s = put o.rd (operation k (register s o.rs1) (bits64 o.imm)) s
+act_by Registers k o s = put o.rd (operation k (register s o.rs1) (register s o.rs2)) s
+act_by Calls k o s = called s
 
 -- what an instruction does
 unfoldable pub act : Form → MachineState → StepResult
-act (LUI rd imm) s = put rd (upper_value imm) s
-act (AUIPC rd imm) s = put rd (plus64 s.pc (upper_value imm)) s
-act (JAL rd offset) s = linked rd (plus64 s.pc (bits64 offset)) s
-act (JALR rd rs1 imm) s = linked rd (even_part (plus64 (register s rs1) (bits64 imm))) s
-act (BEQ rs1 rs2 offset) s = compared (λ a b. a == b) rs1 rs2 offset s
-act (BNE rs1 rs2 offset) s = compared (λ a b. not (a == b)) rs1 rs2 offset s
-act (BLT rs1 rs2 offset) s = compared less_signed rs1 rs2 offset s
-act (BGE rs1 rs2 offset) s = compared (λ a b. int_le (signed64 b) (signed64 a)) rs1 rs2 offset s
-act (BLTU rs1 rs2 offset) s = compared nat_lt rs1 rs2 offset s
-act (BGEU rs1 rs2 offset) s = compared (λ a b. nat_le b a) rs1 rs2 offset s
-act (LB rd rs1 offset) s = loads 1 (sign_extended (2 ^ 7)) rd rs1 offset s
-act (LH rd rs1 offset) s = loads 2 (sign_extended (2 ^ 15)) rd rs1 offset s
-act (LW rd rs1 offset) s = loads 4 (sign_extended (2 ^ 31)) rd rs1 offset s
-act (LD rd rs1 offset) s = loads 8 (λ n. n) rd rs1 offset s
-act (LBU rd rs1 offset) s = loads 1 (λ n. n) rd rs1 offset s
-act (LHU rd rs1 offset) s = loads 2 (λ n. n) rd rs1 offset s
-act (LWU rd rs1 offset) s = loads 4 (λ n. n) rd rs1 offset s
-act (SB rs1 rs2 offset) s = stores 1 rs1 rs2 offset s
-act (SH rs1 rs2 offset) s = stores 2 rs1 rs2 offset s
-act (SW rs1 rs2 offset) s = stores 4 rs1 rs2 offset s
-act (SD rs1 rs2 offset) s = stores 8 rs1 rs2 offset s
-act (ADDI rd rs1 imm) s = operated plus64 rd rs1 (bits64 imm) s
-act (SLTI rd rs1 imm) s = operated (λ a b. truth (less_signed a b)) rd rs1 (bits64 imm) s
-act (SLTIU rd rs1 imm) s = operated (λ a b. truth (nat_lt a b)) rd rs1 (bits64 imm) s
-act (XORI rd rs1 imm) s = operated bit_xor rd rs1 (bits64 imm) s
-act (ORI rd rs1 imm) s = operated bit_or rd rs1 (bits64 imm) s
-act (ANDI rd rs1 imm) s = operated bit_and rd rs1 (bits64 imm) s
-act (SLLI rd rs1 amount) s = operated shifted_left rd rs1 (unsigned amount) s
-act (SRLI rd rs1 amount) s = operated shifted_right rd rs1 (unsigned amount) s
-act (SRAI rd rs1 amount) s = operated shifted_signed rd rs1 (unsigned amount) s
-act (ADD rd rs1 rs2) s = operated plus64 rd rs1 (register s rs2) s
-act (SUB rd rs1 rs2) s = operated minus64 rd rs1 (register s rs2) s
-act (SLL rd rs1 rs2) s = operated shifted_left rd rs1 (register s rs2) s
-act (SLT rd rs1 rs2) s = operated (λ a b. truth (less_signed a b)) rd rs1 (register s rs2) s
-act (SLTU rd rs1 rs2) s = operated (λ a b. truth (nat_lt a b)) rd rs1 (register s rs2) s
-act (XOR rd rs1 rs2) s = operated bit_xor rd rs1 (register s rs2) s
-act (SRL rd rs1 rs2) s = operated shifted_right rd rs1 (register s rs2) s
-act (SRA rd rs1 rs2) s = operated shifted_signed rd rs1 (register s rs2) s
-act (OR rd rs1 rs2) s = operated bit_or rd rs1 (register s rs2) s
-act (AND rd rs1 rs2) s = operated bit_and rd rs1 (register s rs2) s
-act (ADDIW rd rs1 imm) s = operated plus32 rd rs1 (bits64 imm) s
-act (SLLIW rd rs1 amount) s = operated shifted_left32 rd rs1 (unsigned amount) s
-act (SRLIW rd rs1 amount) s = operated shifted_right32 rd rs1 (unsigned amount) s
-act (SRAIW rd rs1 amount) s = operated shifted_signed32 rd rs1 (unsigned amount) s
-act (ADDW rd rs1 rs2) s = operated plus32 rd rs1 (register s rs2) s
-act (SUBW rd rs1 rs2) s = operated minus32 rd rs1 (register s rs2) s
-act (SLLW rd rs1 rs2) s = operated shifted_left32 rd rs1 (register s rs2) s
-act (SRLW rd rs1 rs2) s = operated shifted_right32 rd rs1 (register s rs2) s
-act (SRAW rd rs1 rs2) s = operated shifted_signed32 rd rs1 (register s rs2) s
-act (MUL rd rs1 rs2) s = operated times64 rd rs1 (register s rs2) s
-act (MULH rd rs1 rs2) s = operated high_signed rd rs1 (register s rs2) s
-act (MULHSU rd rs1 rs2) s = operated high_mixed rd rs1 (register s rs2) s
-act (MULHU rd rs1 rs2) s = operated high_unsigned rd rs1 (register s rs2) s
-act (DIV rd rs1 rs2) s = operated quotient rd rs1 (register s rs2) s
-act (DIVU rd rs1 rs2) s = operated quotient_unsigned rd rs1 (register s rs2) s
-act (REM rd rs1 rs2) s = operated remainder rd rs1 (register s rs2) s
-act (REMU rd rs1 rs2) s = operated remainder_unsigned rd rs1 (register s rs2) s
-act (MULW rd rs1 rs2) s = operated times32 rd rs1 (register s rs2) s
-act (DIVW rd rs1 rs2) s = operated quotient32 rd rs1 (register s rs2) s
-act (DIVUW rd rs1 rs2) s = operated quotient_unsigned32 rd rs1 (register s rs2) s
-act (REMW rd rs1 rs2) s = operated remainder32 rd rs1 (register s rs2) s
-act (REMUW rd rs1 rs2) s = operated remainder_unsigned32 rd rs1 (register s rs2) s
-act ECALL s = called s
+act i s = act_by (group_of (kind_of i)) (kind_of i) (operands_of i) s
 
+-- what the machine does with the instruction of a word, where it has one
 abbrev pub decoded : Option Form → MachineState → StepResult
 decoded None s = Traps s.pc Illegal
 decoded (Some i) s = act i s
 
+-- what it does with the word at the pc, where one can be executed there
 abbrev pub fetched : Option ℕ → MachineState → StepResult
 fetched None s = Traps s.pc Fetch
 fetched (Some w) s = decoded (form_at w) s
