@@ -20,6 +20,7 @@ use ir_read_modules::start_at;
 use ir_tree::module::Module;
 use ir_tree::names::Names;
 use ir_tree::parsed::Parsed;
+use sha2::{Digest, Sha256};
 use std::alloc::Global;
 
 /// The items from the first token on, as far as they go, and the number of the token behind them.
@@ -69,7 +70,7 @@ pub fn module_of(alloc: Global, text: &[u8], toks: &[Token]) -> Result<Parsed, P
     ensures spots { IfOk result (λ p. AreSpots text.now toks.now (module_shape p.«module») p.spots) }
     ensures known { IfOk result (λ p. module_known p.«module» ≡ true) }
 {
-    let mut names = Names::new(alloc);
+    let mut names = Names::keyed(alloc, &Sha256::digest(text));
     let (draft, next) = match items_at(alloc, text, toks, &mut names) {
         Ok(read) => read,
         Err(stop) => return Err(error_of(text, toks, stop)),

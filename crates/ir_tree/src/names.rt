@@ -6,16 +6,42 @@ ghost use Rattle.ir_tree.specs.NameTable.{number_of, with_name, text_of, Grows, 
 
 use indexmap::IndexSet;
 use std::alloc::{AllocError, Global};
+use std::hash::{BuildHasher, DefaultHasher, Hasher};
 use std::marker::Model;
 
 /// The number of a name in a [`Names`].
 #[derive(Clone, Copy, Debug, PartialEq, Eq)]
 pub struct NameId(pub u32);
 
+/// Hashes names by SipHash-1-3, each after the same key.
+#[derive(Clone, Copy)]
+pub struct KeyedHash {
+    start: DefaultHasher,
+}
+
+impl KeyedHash {
+    /// Makes a hash with this key.
+    fn new(key: &[u8]) -> KeyedHash {
+        let mut start = DefaultHasher::new();
+        start.write(key);
+        KeyedHash { start }
+    }
+}
+
+impl BuildHasher for KeyedHash {
+    type Hasher = DefaultHasher;
+
+    ghost build_hasher = { λ hash. hash.start };
+
+    fn build_hasher(&self) -> DefaultHasher {
+        self.start
+    }
+}
+
 /// Distinct names, numbered from 0 in the order in which they were first given.
 #[derive(Drop)]
 pub struct Names {
-    set: IndexSet<Vec<u8>>,
+    set: IndexSet<Vec<u8>, KeyedHash>,
 }
 
 impl Model for Names {
@@ -31,8 +57,18 @@ impl Names {
     pub fn new(alloc: Global) -> Names
         ensures { result ≡ [] }
     {
+        Names::keyed(alloc, &[])
+    }
+
+    /// Makes a table without names that looks names up by a hash with this key.
+    ///
+    /// Whoever chooses the names can make a hash slow whose key is known. So where names come of a text, let the key be a digest
+    /// of the whole text: names that collide under it can't be found, since they change it.
+    pub fn keyed(alloc: Global, key: &[u8]) -> Names
+        ensures { result ≡ [] }
+    {
         Names {
-            set: IndexSet::new(alloc),
+            set: IndexSet::with_hasher(alloc, KeyedHash::new(key)),
         }
     }
 
