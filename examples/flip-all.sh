@@ -9,6 +9,7 @@
 [ $# -ge 1 ] || { sed -n 's/^#   /usage: /p' "$0" >&2; exit 2; }
 swiftr=$(dirname "$(readlink -f "$0")")/../swiftr
 bits=${2:-0 7 31 63}
+export SWIFTR_QUIET=1
 folder=$(mktemp -d) || exit 2
 trap 'rm -rf "$folder"' EXIT
 file=$folder/file.elf
