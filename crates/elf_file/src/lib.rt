@@ -8,8 +8,6 @@ mod extents;
 mod header;
 mod reader;
 mod segments;
-#[cfg(test)]
-mod tests;
 mod writer;
 
 pub use error::ElfError;

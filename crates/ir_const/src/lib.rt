@@ -10,8 +10,3 @@ pub use depth::deep_end;
 pub use error::{ReadError, place_of};
 pub use ir_print_consts::{print_const, print_ty};
 pub use reading::{read_const, read_ty};
-
-#[cfg(test)]
-mod print_tests;
-#[cfg(test)]
-mod tests;

@@ -22,6 +22,3 @@ pub use quieting::quiet;
 pub use scan::tokens;
 pub use symbols::{mark_of, number_of, text_of};
 pub use token::{Kind, Token};
-
-#[cfg(test)]
-mod tests;

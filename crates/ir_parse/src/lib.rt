@@ -41,8 +41,3 @@ pub fn parse(alloc: Global, text: &[u8], toks: &[Token]) -> Result<Parsed, Parse
     }
     module_of(alloc, text, toks)
 }
-
-#[cfg(test)]
-mod refusal_tests;
-#[cfg(test)]
-mod tests;

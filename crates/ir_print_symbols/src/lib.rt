@@ -22,6 +22,3 @@ pub fn printed_symbols_are_read()
     ensures line_by_line { (ls : List Line) → ArePrintable (rows_of ls) → AreIndented ls → Spells (text_of_lines ls) (rows_of ls) }
     ensures no_others { (text : List ℕ) (ss : List Symbol) (toks : List Token) → Spells text ss → AreTokens text toks → symbols_of text toks ≡ ss }
 {}
-
-#[cfg(test)]
-mod tests;

@@ -8,6 +8,3 @@ pub use words::{
     Keyword, is_align, is_caller, is_comdat, is_group_word, is_header, is_outside_word,
     is_quiet_word, keyword_of,
 };
-
-#[cfg(test)]
-mod tests;

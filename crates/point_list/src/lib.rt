@@ -6,8 +6,6 @@ mod choose;
 mod instructions;
 mod list;
 mod marks;
-#[cfg(test)]
-mod tests;
 mod walk;
 
 pub use choose::points;

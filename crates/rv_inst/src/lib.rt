@@ -8,8 +8,6 @@ mod forms;
 mod instruction;
 mod opcodes;
 mod table;
-#[cfg(test)]
-mod tests;
 mod words;
 
 pub use assembly::text;

@@ -7,8 +7,6 @@ mod operations;
 mod processor;
 mod runner;
 mod streams;
-#[cfg(test)]
-mod tests;
 mod values;
 
 pub use processor::{Machine, Tick};

@@ -9,6 +9,3 @@ mod outside;
 pub use mem_sink::MemSink;
 pub use mem_store::MemStore;
 pub use outside::{Sink, SinkError, Store, StoreError, put_all};
-
-#[cfg(test)]
-mod tests;
