@@ -111,7 +111,7 @@ reading_of bytes =
     else Err WrongKind)
     else Err NotElf
 
--- the answer is this one, unless memory was wanted
+-- the answer is this one, unless memory ran out
 abbrev pub IsAnswer : {X : Type 0} → Result X ElfError → Result X ElfError → Type 0
 IsAnswer (Err OutOfMemory) wanted = Unit {0}
 IsAnswer answer wanted = answer ≡ wanted

@@ -3,7 +3,7 @@
 use std::alloc::{AllocError, AllocFailed};
 use thiserror::Error;
 
-/// The first of these that holds of a file, in this order; memory may be wanted at any point.
+/// The first of these that holds of a file, in this order; memory may run out at any point.
 #[derive(Clone, Copy, Debug, PartialEq, Eq, Error)]
 pub enum ElfError {
     /// The file does not begin with a file header of ELF.

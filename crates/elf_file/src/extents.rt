@@ -27,7 +27,7 @@ fn arrange(extents: &mut Vec<Extent>)
     extents.sort_unstable_by_key(|extent| extent.base);
 }
 
-/// Whether a range reaches into the next one, among ranges sorted by their beginnings.
+/// Tells whether a range reaches into the next one, among ranges sorted by their beginnings.
 fn neighbours_share(extents: &[Extent]) -> bool
     requires { IsNonDecreasingBy (λ x. x.base) extents.now }
     ensures { MatchBool result ((k : ℕ) × (k + 1 < length extents.now) × ((d : Extent) → (slice_index_or extents.now (k + 1) d).base < (slice_index_or extents.now k d).base + (slice_index_or extents.now k d).size)) (AllAdjacentBelow (λ x y. x.base + x.size ≤ y.base) extents.now (length extents.now)) }
@@ -42,7 +42,7 @@ fn neighbours_share(extents: &[Extent]) -> bool
     false
 }
 
-/// Whether two of the ranges share an address.
+/// Tells whether two of the ranges share an address.
 fn share_address(mut extents: Vec<Extent>) -> bool
     ensures { result ≡ any_extents_shared extents.items }
 {
@@ -50,7 +50,7 @@ fn share_address(mut extents: Vec<Extent>) -> bool
     neighbours_share(extents.as_slice())
 }
 
-/// How many bytes the ranges have, or 2^64 - 1 where it is more.
+/// Returns how many bytes the ranges have, or 2^64 - 1 where it is more.
 fn size_of_all(extents: &[Extent]) -> u64
     ensures { result ≡ min (2 ^ 64 - 1) (extents_size extents.now) }
 {
@@ -61,7 +61,7 @@ fn size_of_all(extents: &[Extent]) -> u64
     total
 }
 
-/// Why segments with these ranges make no image: `Overlap` or `TooLarge`, in this order.
+/// Tells why segments with these ranges make no image: `Overlap` or `TooLarge`, in this order.
 pub fn refusal(extents: Vec<Extent>) -> Option<ElfError>
     ensures { result ≡ refusal_of extents.items }
 {

@@ -43,7 +43,7 @@ pub struct ProgramHeader {
     pub p_align: u64,
 }
 
-/// The number of 16 bits at an offset, lowest byte first.
+/// Returns the number of 16 bits at an offset, lowest byte first.
 #[tactic(auto, unfolding(crate::specs::Reading::number_at))]
 fn u16_at(bytes: &[u8], offset: usize) -> u16
     requires { offset + 2 ≤ length bytes.now }
@@ -52,7 +52,7 @@ fn u16_at(bytes: &[u8], offset: usize) -> u16
     LittleEndian::read_u16(&bytes[offset..])
 }
 
-/// The number of 32 bits at an offset, lowest byte first.
+/// Returns the number of 32 bits at an offset, lowest byte first.
 #[tactic(auto, unfolding(crate::specs::Reading::number_at))]
 fn u32_at(bytes: &[u8], offset: usize) -> u32
     requires { offset + 4 ≤ length bytes.now }
@@ -61,7 +61,7 @@ fn u32_at(bytes: &[u8], offset: usize) -> u32
     LittleEndian::read_u32(&bytes[offset..])
 }
 
-/// The number of 64 bits at an offset, lowest byte first.
+/// Returns the number of 64 bits at an offset, lowest byte first.
 #[tactic(auto, unfolding(crate::specs::Reading::number_at))]
 fn u64_at(bytes: &[u8], offset: usize) -> u64
     requires { offset + 8 ≤ length bytes.now }
@@ -98,7 +98,7 @@ impl FileHeader {
     /// How many bytes a file header has.
     pub const SIZE: usize = 64;
 
-    /// The header at the beginning of the bytes.
+    /// Reads the header at the beginning of the bytes.
     pub fn read(bytes: &[u8]) -> FileHeader
         requires { 64 ≤ length bytes.now }
         ensures { result ≡ file_header bytes.now }
@@ -146,7 +146,7 @@ impl ProgramHeader {
     /// How many bytes a program header has.
     pub const SIZE: usize = 56;
 
-    /// The header at the beginning of the bytes.
+    /// Reads the header at the beginning of the bytes.
     pub fn read(bytes: &[u8]) -> ProgramHeader
         requires { 56 ≤ length bytes.now }
         ensures { result ≡ program_header bytes.now }

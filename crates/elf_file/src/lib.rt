@@ -15,7 +15,7 @@ pub use reader::read;
 pub use segments::{Bytes, Image, Segment, Segments};
 pub use writer::write;
 
-/// The law that what [`write`] gives reads back, whatever the words and the data.
+/// States that what [`write`] gives reads back, whatever the words and the data.
 ///
 /// The image starts at 0x10000, where the text lies with flags 5, and has the data at 0x10000000 with
 /// flags 6: `init` and then `extra` zeros. The words of its text segment are those written.

@@ -17,14 +17,14 @@ const MAGIC: [u8; 4] = [0x7f, b'E', b'L', b'F'];
 /// The type of a program header that places a segment in memory.
 const PT_LOAD: u32 = 1;
 
-/// Whether the bytes begin with a whole file header of ELF.
+/// Tells whether the bytes begin with a whole file header of ELF.
 fn is_elf_file(bytes: &[u8]) -> bool
     ensures { result ≡ is_elf bytes.now }
 {
     FileHeader::SIZE <= bytes.len() && bytes.starts_with(&MAGIC)
 }
 
-/// Whether the file is an ELF64 executable for RISC-V, lowest byte first.
+/// Tells whether the file is an ELF64 executable for RISC-V, lowest byte first.
 fn has_right_kind(bytes: &[u8], header: &FileHeader) -> bool
     requires whole { 64 ≤ length bytes.now }
     requires header { header.now ≡ file_header bytes.now }
@@ -39,21 +39,21 @@ fn has_right_kind(bytes: &[u8], header: &FileHeader) -> bool
         && (header.e_phnum == 0 || header.e_phentsize == 56)
 }
 
-/// Whether this many bytes from an offset lie in a file of this size. No bytes lie in every file.
+/// Tells whether this many bytes from an offset lie in a file of this size. No bytes lie in every file.
 fn lies_in_file(size: u64, offset: u64, count: u64) -> bool
     ensures { result ≡ lie_in_file size offset count }
 {
     count == 0 || (offset <= size && count <= size - offset)
 }
 
-/// Whether this many bytes of memory from an address end at 2^64 at the latest.
+/// Tells whether this many bytes of memory from an address end at 2^64 at the latest.
 fn ends_in_memory(base: u64, size: u64) -> bool
     ensures { result ≡ nat_le (base + size) (2 ^ 64) }
 {
     size == 0 || base <= u64::MAX - (size - 1)
 }
 
-/// Whether the segment's bytes lie in a file of this size and fit its memory.
+/// Tells whether the segment's bytes lie in a file of this size and fit its memory.
 fn places_well(size: u64, header: &ProgramHeader) -> bool
     ensures { result ≡ is_good_header size header.now }
 {
@@ -62,7 +62,7 @@ fn places_well(size: u64, header: &ProgramHeader) -> bool
         && ends_in_memory(header.p_vaddr, header.p_memsz)
 }
 
-/// The bytes from the program headers on.
+/// Returns the bytes from the program headers on.
 fn header_table<'a>(bytes: &'a [u8], header: &FileHeader) -> &'a [u8]
     requires { lie_in_file (length bytes.now) header.now.e_phoff (56 * header.now.e_phnum) ≡ true }
     ensures whole { 56 * header.now.e_phnum ≤ length result.now }
@@ -75,7 +75,7 @@ fn header_table<'a>(bytes: &'a [u8], header: &FileHeader) -> &'a [u8]
     }
 }
 
-/// Whether each header of the table that places a segment places it well in a file of this size.
+/// Tells whether each header of the table that places a segment places it well in a file of this size.
 fn all_place_well(size: u64, table: &[u8], count: u16) -> bool
     requires { 56 * count ≤ length table.now }
     ensures { result ≡ list_all (is_good_header size) (filter is_load (program_headers count table.now)) }
@@ -91,7 +91,7 @@ fn all_place_well(size: u64, table: &[u8], count: u16) -> bool
     true
 }
 
-/// Whether the program headers lie in the file, and so does what they place.
+/// Tells whether the program headers lie in the file, and so does what they place.
 fn headers_are_good(bytes: &[u8], header: &FileHeader) -> bool
     requires { header.now ≡ file_header bytes.now }
     ensures { result ≡ has_good_headers bytes.now }
@@ -101,7 +101,7 @@ fn headers_are_good(bytes: &[u8], header: &FileHeader) -> bool
         && all_place_well(size, header_table(bytes, header), header.e_phnum)
 }
 
-/// The headers of the table that place segments.
+/// Returns the headers of the table that place segments.
 fn headers_to_load(
     alloc: Global,
     table: &[u8],
@@ -122,7 +122,7 @@ fn headers_to_load(
     Ok(headers)
 }
 
-/// The addresses that the headers' segments take.
+/// Returns the addresses that the headers' segments take.
 fn extents_of(alloc: Global, headers: &[ProgramHeader]) -> Result<Vec<Extent>, AllocError>
     ensures { IfOk result (λ extents. extents.items ≡ map extent_of headers.now) }
 {
@@ -135,7 +135,7 @@ fn extents_of(alloc: Global, headers: &[ProgramHeader]) -> Result<Vec<Extent>, A
         .collect(alloc)
 }
 
-/// The segment that the header places.
+/// Returns the segment that the header places.
 fn load_segment(alloc: Global, bytes: &[u8], header: &ProgramHeader) -> Result<Segment, AllocError>
     requires { is_good_header (length bytes.now) header.now ≡ true }
     ensures { IfOk result (λ segment. segment ≡ segment_of bytes.now header.now) }
@@ -155,7 +155,7 @@ fn load_segment(alloc: Global, bytes: &[u8], header: &ProgramHeader) -> Result<S
     })
 }
 
-/// The segments that the headers place, in their order.
+/// Returns the segments that the headers place, in their order.
 fn load_segments(
     alloc: Global,
     bytes: &[u8],
@@ -171,12 +171,12 @@ fn load_segments(
     Ok(Segments::new(segments))
 }
 
-/// The image of a file, by the ELF-64 Object File Format.
+/// Reads the image of a file, by the ELF-64 Object File Format.
 ///
 /// # Errors
 ///
 /// The first of `NotElf`, `WrongKind`, `BadSegment`, `Overlap` and `TooLarge` that holds of the file;
-/// `OutOfMemory` where memory is wanted.
+/// `OutOfMemory` where memory runs out.
 pub fn read(alloc: Global, bytes: &[u8]) -> Result<Image, ElfError>
     ensures { IsAnswer result (reading_of bytes.now) }
 {

@@ -23,14 +23,14 @@ impl Model for Bytes {
 }
 
 impl Bytes {
-    /// These bytes as a list of their own.
+    /// Makes a list of these bytes.
     pub fn new(items: Vec<u8>) -> Bytes
         ensures { result ≡ items.items }
     {
         Bytes { items }
     }
 
-    /// The bytes, in order.
+    /// Returns the bytes, in order.
     pub fn as_slice(&self) -> &[u8]
         ensures { result.now ≡ self.now }
     {
@@ -76,14 +76,14 @@ impl Model for Segments {
 }
 
 impl Segments {
-    /// These segments as a list of their own.
+    /// Makes a list of these segments.
     pub fn new(items: Vec<Segment>) -> Segments
         ensures { result ≡ items.items }
     {
         Segments { items }
     }
 
-    /// The segments, in order.
+    /// Returns the segments, in order.
     pub fn as_slice(&self) -> &[Segment]
         ensures { result.now ≡ self.now }
     {
@@ -114,12 +114,12 @@ impl Image {
     ghost use Rattle.std.specs.Prelude.{◌≡◌, ◌≤◌};
     ghost use Rattle.elf_file.specs.Reading.{IsAnswer, image_of};
 
-    /// The image that begins at this address and has these segments.
+    /// Makes an image that begins at this address and has these segments.
     ///
     /// # Errors
     ///
-    /// `Overlap` where two segments share an address, or else `TooLarge` where they take too much
-    /// memory; `OutOfMemory` where memory is wanted.
+    /// `Overlap` where two segments share an address, or else `TooLarge` where they take too much memory;
+    /// `OutOfMemory` where memory runs out.
     pub fn new(alloc: Global, begin: u64, segments: Segments) -> Result<Image, ElfError>
         ensures { IsAnswer result (image_of begin segments) }
     {
@@ -130,7 +130,7 @@ impl Image {
     }
 }
 
-/// The addresses that the segments take.
+/// Returns the addresses that the segments take.
 fn extents_of(alloc: Global, segments: &[Segment]) -> Result<Vec<Extent>, AllocError>
     ensures { IfOk result (λ extents. extents.items ≡ map range_of segments.now) }
 {

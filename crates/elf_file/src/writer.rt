@@ -76,7 +76,7 @@ fn put_words(file: &mut Vec<u8>, words: &[u32]) -> Result<(), AllocError>
     Ok(())
 }
 
-/// The bytes of an executable whose text is `words` and whose data is `init` and then `extra` zeros.
+/// Returns the bytes of an executable whose text is `words` and whose data is `init` and then `extra` zeros.
 ///
 /// The text lies at 0x10000, where the program starts, to be read and executed; the data lies at
 /// 0x10000000, to be read and written. The layout is that of the ELF-64 Object File Format.

@@ -289,7 +289,7 @@ later_there : (words : List ℕ) (base : ℕ) (value : Value) (j m : ℕ) (test 
     next_index (said_by words) base j ≡ Some m → test m ≡ true → holds_later (said_by words) base value j test ≡ true
 later_there words base value j m test pass next found = rw (pass, next) found
 
--- what a place in front of a path says of word j
+-- what a place before a path says of word j
 record Front (words : List ℕ) (base : ℕ) (value : Value) (j : ℕ) (rest : List Place) (to : ℕ) : Type 0 where
   index : ℕ
   pass : passes value.reg value.first (instruction_at (said_by words) j) ≡ true

@@ -12,10 +12,10 @@ ghost use Rattle.rv_flips.specs.Ending.{ending_words, ending_points};
 ghost use Rattle.rv_flips.specs.Survives.{IsListed, Survives};
 ghost use Rattle.rv_flips.specs.Fetching.{Fetches};
 
-/// A law: a program of the three words `addi x10,x0,N`, `addi x17,x0,93` and `ecall` ends with the
-/// lowest byte of N and without output, whatever its data and its input, also when one bit of one register
-/// is flipped before any instruction at a point outside a list of three; and each of these is a window
-/// point of the text.
+/// States that a program of the three words `addi x10,x0,N`, `addi x17,x0,93` and `ecall` ends with the
+/// lowest byte of N and without output, whatever its data and its input, also when one bit of one register is
+/// flipped before any instruction at a point outside a list of three; and each of these is a window point of
+/// the text.
 pub fn ending_survives()
     ensures survives { (words init input : List ℕ) (extra : ℕ) (n : ℤ) → WordsOf words (ending_words n) →
         Survives (program_image words init extra) ending_points input [] (bits64 n % 256)
@@ -24,16 +24,16 @@ pub fn ending_survives()
         IsListed ending_points p r → IsWindowPoint words text_base p r }
 {}
 
-/// A law: `addi d,a,0`, `beq d,b,8`, `addi d,t,0` bring the right value of three copies, of which at most one
-/// is wrong, into a fourth register, wherever they stand, for any registers with d apart from b and t, and
-/// whatever flip outside the list comes before, within or after them.
+/// States that `addi d,a,0`, `beq d,b,8`, `addi d,t,0` bring the right value of three copies, of which at
+/// most one is wrong, into a fourth register, wherever they stand, for any registers with d apart from b and
+/// t, and whatever flip outside the list comes before, within or after them.
 pub fn three_copies_are_fetched()
     ensures { Fetches }
 {}
 
-/// A law: a word that computes, from two registers or from one and an immediate, makes of operands with one tag a
-/// result with that tag, as of first copies a first copy, wherever it stands and whatever flip outside the list
-/// comes before it. Of code words it says nothing.
+/// States that a word that computes, from two registers or from one and an immediate, makes of operands with
+/// one tag a result with that tag, as of first copies a first copy, wherever it stands and whatever flip
+/// outside the list comes before it. Of code words it says nothing.
 pub fn computing_keeps_the_tag()
     ensures { Computes }
 {}

@@ -20,7 +20,7 @@ pub stored-none : (address : ℕ) (xs : List ℕ) → stored address xs [] ≡ N
 unfolding stored
 stored-none address xs = refl
 
--- the segments in front stay, and the store goes into those behind them
+-- the segments in front stay, and the store goes into those after them
 abbrev pub behind : List LoadedSegment → Option (List LoadedSegment) → Option (List LoadedSegment)
 behind front o = option_map (λ rest. front ++ rest) o
 

@@ -35,7 +35,7 @@ impl Model for MemorySegment {
 }
 
 impl MemorySegment {
-    /// The segment with its bytes of the file, and then zeros.
+    /// Returns the segment with its bytes of the file, and then zeros.
     pub fn load(alloc: Global, segment: &Segment) -> Result<MemorySegment, AllocError>
         ensures { IfOk result (λ loaded. loaded ≡ loaded_segment segment.now) }
     {
@@ -50,7 +50,7 @@ impl MemorySegment {
         })
     }
 
-    /// Where the bytes at the address begin in the segment, where it has the flag and all of them.
+    /// Finds where the bytes at the address begin in the segment, where it has the flag and all of them.
     fn place_of(&self, flag: u32, address: u64, count: u64) -> Option<usize>
         requires { 0 < flag }
         ensures served { is_some result ≡ serves flag address count self.now }
@@ -68,7 +68,7 @@ impl MemorySegment {
         Some(from as usize)
     }
 
-    /// The bytes at the address, where the segment has the flag and all of them.
+    /// Returns the bytes at the address, where the segment has the flag and all of them.
     fn part(&self, flag: u32, address: u64, count: u64) -> Option<&[u8]>
         requires { 0 < flag }
         ensures served { is_some result ≡ serves flag address count self.now }
@@ -94,7 +94,7 @@ impl MemorySegment {
     }
 }
 
-/// The bytes at the address, where a segment with the flag has all of them.
+/// Returns the bytes at the address, where a segment with the flag has all of them.
 pub fn bytes_at(segments: &[MemorySegment], flag: u32, address: u64, count: u64) -> Option<&[u8]>
     requires { 0 < flag }
     ensures size { IfSome result (λ bytes. length bytes.now ≡ count) }
@@ -108,7 +108,7 @@ pub fn bytes_at(segments: &[MemorySegment], flag: u32, address: u64, count: u64)
     None
 }
 
-/// The bytes at the address, where a segment that is read has all of them, or where there are none.
+/// Returns the bytes at the address, where a segment that is read has all of them, or where there are none.
 pub fn bytes_for(segments: &[MemorySegment], address: u64, count: u64) -> Option<&[u8]>
     ensures size { IfSome result (λ bytes. length bytes.now ≡ count) }
     ensures bytes { MatchOption result (bytes_for address count segments.now ≡ None) (λ bytes. bytes_for address count segments.now ≡ Some bytes.now) }

@@ -63,7 +63,7 @@ impl Model for Machine {
     ghost view = { λ m. record { regs = m.registers; pc = m.pc; segments = m.segments.items; input = m.input; out = m.out } };
 }
 
-/// The segments of memory, each with its bytes of the file and then zeros.
+/// Returns the segments of memory, each with its bytes of the file and then zeros.
 fn load_segments(alloc: Global, segments: &[Segment]) -> Result<Vec<MemorySegment>, AllocError>
     ensures { IfOk result (λ loaded. loaded.items ≡ map loaded_segment segments.now) }
 {
@@ -75,7 +75,7 @@ fn load_segments(alloc: Global, segments: &[Segment]) -> Result<Vec<MemorySegmen
 }
 
 impl Machine {
-    /// The machine at the start of an image's program, with this input.
+    /// Makes a machine at the start of an image's program, with this input.
     #[tactic(auto, unfolding(rv_model::specs::Start::started))]
     pub fn load(alloc: Global, image: &Image, input: &[u8]) -> Result<Machine, AllocError>
         ensures { IfOk result (λ machine. machine ≡ started image.now input.now) }
@@ -89,21 +89,21 @@ impl Machine {
         })
     }
 
-    /// The address of the next instruction.
+    /// Returns the address of the next instruction.
     pub fn pc(&self) -> u64
         ensures { result ≡ self.now.pc }
     {
         self.pc
     }
 
-    /// The output so far.
+    /// Returns the output so far.
     pub fn out(&self) -> &[u8]
         ensures { result.now ≡ self.now.out }
     {
         self.out.as_slice()
     }
 
-    /// The output so far, of a machine that is done with.
+    /// Returns the output so far, of a machine that is done with.
     pub fn into_out(self) -> Output
         ensures { result ≡ self.out }
     {
@@ -121,11 +121,11 @@ impl Machine {
         self.set_register(reg, value ^ (1 << bit));
     }
 
-    /// One instruction. Where the program ends or the instruction traps, the machine stays as it was.
+    /// Runs one instruction. Where the program ends or the instruction traps, the machine stays as it was.
     ///
     /// # Errors
     ///
-    /// Memory may be wanting for output, and for nothing else; the machine then stays as it was.
+    /// Memory may run out for output, and for nothing else; the machine then stays as it was.
     pub fn step(&mut self) -> Result<Tick, AllocError>
         ensures ok { IfOk result (λ tick. IsTick tick (step self.old) self.old self.new) }
         ensures err { OnErr result (self.new ≡ self.old) }
@@ -137,7 +137,7 @@ impl Machine {
         self.execute(word)
     }
 
-    /// The word at the pc, where one can be executed there.
+    /// Returns the word at the pc, where one can be executed there.
     #[tactic(auto, unfolding(rv_model::specs::Memory::word_at))]
     fn word_here(&self) -> Option<u32>
         ensures { result ≡ word_at self.now.pc self.now.segments }
@@ -198,7 +198,7 @@ impl Machine {
         }
     }
 
-    /// The address of a load or a store.
+    /// Returns the address of a load or a store.
     fn address(&self, rs1: u8, offset: i32) -> u64
         requires { rs1 < 32 }
         ensures { result ≡ address rs1 offset self.now }
@@ -206,7 +206,7 @@ impl Machine {
         self.register(rs1).wrapping_add(bits64(offset))
     }
 
-    /// The number that the bytes at the address make, where they can be read.
+    /// Returns the number that the bytes at the address make, where they can be read.
     fn number_at(&self, address: u64, count: u64) -> Option<u64>
         requires low { 1 ≤ count }
         requires high { count ≤ 8 }
@@ -274,7 +274,7 @@ impl Machine {
         Tick::Went
     }
 
-    /// The environment's call that x17 numbers.
+    /// Makes the environment's call that x17 numbers.
     fn call(&mut self) -> Result<Tick, AllocError>
         ensures ok { IfOk result (λ tick. IsTick tick (called self.old) self.old self.new) }
         ensures err { OnErr result (self.new ≡ self.old) }
@@ -293,7 +293,7 @@ impl Machine {
         }
     }
 
-    /// The call that reads: the next bytes of the input, at most x12 of them, come to the address in x11.
+    /// Reads: the next bytes of the input, at most x12 of them, come to the address in x11.
     fn read_input(&mut self) -> Tick
         ensures { IsTick result (reads_input self.old) self.old self.new }
     {
@@ -308,7 +308,7 @@ impl Machine {
         self.put(10, count as u64)
     }
 
-    /// The call that writes: the x12 bytes at the address in x11 are put out.
+    /// Writes: the x12 bytes at the address in x11 are put out.
     fn write_output(&mut self) -> Result<Tick, AllocError>
         ensures ok { IfOk result (λ tick. IsTick tick (writes_output self.old) self.old self.new) }
         ensures err { OnErr result (self.new ≡ self.old) }
@@ -323,7 +323,7 @@ impl Machine {
         Ok(self.put(10, count))
     }
 
-    /// What a register holds.
+    /// Returns what a register holds.
     fn register(&self, r: u8) -> u64
         requires { r < 32 }
         ensures { result ≡ register self.now r }

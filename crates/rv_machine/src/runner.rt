@@ -24,7 +24,7 @@ pub enum Outcome {
     StepsOver { out: Output },
 }
 
-/// The flip that is left after an instruction.
+/// Returns the flip that is left after an instruction.
 fn later(flip: Option<Flip>) -> Option<Flip>
     ensures { result ≡ later flip }
 {
@@ -51,7 +51,7 @@ fn strike(machine: &mut Machine, pending: Option<Flip>)
     }
 }
 
-/// The run of at most `steps` instructions of an image's program on this input, with a flip or none.
+/// Runs at most `steps` instructions of an image's program on this input, with a flip or none.
 ///
 /// A flip that the run doesn't reach does nothing.
 pub fn run(

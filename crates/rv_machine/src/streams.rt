@@ -23,7 +23,7 @@ impl Model for Input {
 }
 
 impl Input {
-    /// All of these bytes.
+    /// Makes an input of all of these bytes.
     pub fn new(alloc: Global, bytes: &[u8]) -> Result<Input, AllocError>
         ensures { IfOk result (λ input. input ≡ bytes.now) }
     {
@@ -33,7 +33,7 @@ impl Input {
         })
     }
 
-    /// The bytes that are left, in order.
+    /// Returns the bytes that are left, in order.
     pub fn rest(&self) -> &[u8]
         ensures { result.now ≡ self.now }
     {
@@ -64,7 +64,7 @@ impl Model for Output {
 }
 
 impl Output {
-    /// No output.
+    /// Makes an empty output.
     pub fn new(alloc: Global) -> Output
         ensures { result ≡ [] }
     {
@@ -73,14 +73,14 @@ impl Output {
         }
     }
 
-    /// The bytes, in order.
+    /// Returns the bytes, in order.
     pub fn as_slice(&self) -> &[u8]
         ensures { result.now ≡ self.now }
     {
         self.items.as_slice()
     }
 
-    /// The bytes, of an output that is done with.
+    /// Returns the bytes, of an output that is done with.
     pub fn into_bytes(self) -> Vec<u8>
         ensures { result.items ≡ self }
     {
@@ -91,7 +91,7 @@ impl Output {
     ///
     /// # Errors
     ///
-    /// Memory may be wanting where there are some; nothing is then appended.
+    /// Memory may run out where there are some; nothing is then appended.
     pub fn append(&mut self, bytes: &[u8]) -> Result<(), AllocError>
         ensures ok { OnOk result (self.new ≡ self.old ++ bytes.now) }
         ensures err { OnErr result (self.new ≡ self.old) }

@@ -32,7 +32,7 @@ impl Model for MemSink {
 impl MemSink {
     ghost use Rattle.std.specs.Prelude.{◌≡◌, ◌≤◌, []};
 
-    /// A sink that has taken nothing, takes at most `most` bytes a put, and fails at the puts of these
+    /// Makes a sink that has taken nothing, takes at most `most` bytes a put, and fails at the puts of these
     /// numbers.
     pub fn new(most: usize, failing: Vec<u64>) -> MemSink
         requires { 1 ≤ most }
@@ -49,14 +49,14 @@ impl MemSink {
         }
     }
 
-    /// The bytes taken, in order.
+    /// Returns the bytes taken, in order.
     pub fn bytes(&self) -> &[u8]
         ensures { result.now ≡ self.now.taken }
     {
         &self.taken
     }
 
-    /// How many puts failed, at most 2^64 - 1. A want of memory is no fault.
+    /// Returns how many puts failed, at most 2^64 - 1. Running out of memory is no fault.
     pub fn count(&self) -> u64
         ensures { result ≡ self.now.faults }
     {

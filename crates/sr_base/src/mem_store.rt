@@ -45,7 +45,7 @@ impl MemStore {
     ghost use Rattle.std.specs.FinMap.{empty, get};
     ghost use Rattle.sr_base.specs.Counts.{capped_sum, raised};
 
-    /// A store with no files, whose calls of these numbers fail.
+    /// Makes a store with no files, whose calls of these numbers fail.
     pub fn new(failing: Vec<u64>) -> MemStore
         ensures { result
             ≡ record { files = empty; failing = failing.items; calls = 0; read_faults = 0; write_faults = 0; write_wants = 0 } }
@@ -70,7 +70,7 @@ impl MemStore {
         put_file(alloc, &mut self.files, name, bytes)
     }
 
-    /// The bytes of a file, or `None` where there is no such file.
+    /// Returns the bytes of a file, or `None` where there is no such file.
     pub fn file(&self, name: &str) -> Option<&[u8]>
         ensures { option_copied result ≡ get self.now.files name.now }
     {
@@ -80,7 +80,7 @@ impl MemStore {
         }
     }
 
-    /// How many faults there were: of reads and of writes together, at most 2^64 - 1.
+    /// Returns how many faults there were: of reads and of writes together, at most 2^64 - 1.
     pub fn count(&self) -> u64
         ensures { result ≡ capped_sum self.now.read_faults self.now.write_faults }
     {
