@@ -53,7 +53,7 @@ abbrev pub many : {S V : Type 0} → Lang S V → Lang S (List V)
 many a ts [] = ts ≡ []
 many {S} a ts (v ∷ vs) = (p : List S) × (q : List S) × (ts ≡ p ++ q) × a p v × many a q vs
 
--- a value in front of a list of them
+-- a value before a list of them
 abbrev pub cons : {V : Type 0} → V × List V → List V
 cons v = v.0 ∷ v.1
 

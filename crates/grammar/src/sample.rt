@@ -45,7 +45,7 @@ pub enum Entry {
     Group(Vec<Item>),
 }
 
-/// The symbol numbered `at`.
+/// Reads the symbol numbered `at`.
 fn symbol_at(symbols: &[Symbol], at: usize) -> Option<Symbol>
     requires { at ≤ length symbols.now }
     ensures { MatchOption result (drop at symbols.now ≡ [])
@@ -54,7 +54,7 @@ fn symbol_at(symbols: &[Symbol], at: usize) -> Option<Symbol>
     symbols.get(at).copied()
 }
 
-/// The number of the symbol after a `-` at `at`.
+/// Returns the number of the symbol after a `-` at `at`.
 fn after_minus(symbols: &[Symbol], at: usize) -> Option<usize>
     requires { at ≤ length symbols.now }
     ensures { Tries minus symbols.now result (drop at symbols.now) }
@@ -65,7 +65,7 @@ fn after_minus(symbols: &[Symbol], at: usize) -> Option<usize>
     }
 }
 
-/// The number of the symbol after a `(` at `at`.
+/// Returns the number of the symbol after a `(` at `at`.
 fn after_open(symbols: &[Symbol], at: usize) -> Option<usize>
     requires { at ≤ length symbols.now }
     ensures { Tries open_mark symbols.now result (drop at symbols.now) }
@@ -76,7 +76,7 @@ fn after_open(symbols: &[Symbol], at: usize) -> Option<usize>
     }
 }
 
-/// The number of the symbol after a `)` at `at`.
+/// Returns the number of the symbol after a `)` at `at`.
 fn after_close(symbols: &[Symbol], at: usize) -> Option<usize>
     requires { at ≤ length symbols.now }
     ensures { Tries close_mark symbols.now result (drop at symbols.now) }
@@ -87,7 +87,7 @@ fn after_close(symbols: &[Symbol], at: usize) -> Option<usize>
     }
 }
 
-/// The number of the symbol after a `,`, which has to be at `at`.
+/// Returns the number of the symbol after a `,`, which has to be at `at`.
 fn comma_at(symbols: &[Symbol], at: usize) -> Result<usize, Stop>
     requires { at ≤ length symbols.now }
     ensures { Steps symbols.now result (run_one comma (drop at symbols.now)) }
@@ -98,7 +98,7 @@ fn comma_at(symbols: &[Symbol], at: usize) -> Result<usize, Stop>
     }
 }
 
-/// The number at `at`.
+/// Reads the number at token `at`.
 fn number_at(symbols: &[Symbol], at: usize) -> Result<(u8, usize), Stop>
     requires { at ≤ length symbols.now }
     ensures { Gives (λ n. n) symbols.now result (run_one number (drop at symbols.now)) }
@@ -109,7 +109,7 @@ fn number_at(symbols: &[Symbol], at: usize) -> Result<(u8, usize), Stop>
     }
 }
 
-/// The item at `at`.
+/// Reads the item at token `at`.
 fn item_at(symbols: &[Symbol], at: usize) -> Result<(Item, usize), Stop>
     requires { at ≤ length symbols.now }
     ensures { Gives (λ i. i) symbols.now result (run_item (drop at symbols.now)) }
@@ -138,7 +138,7 @@ fn item_at(symbols: &[Symbol], at: usize) -> Result<(Item, usize), Stop>
     }
 }
 
-/// The items from `at` on, up to a `)`. At most `budget` items are read.
+/// Reads the items starting at token `at`, up to a `)`. At most `budget` items are read.
 fn items_at(
     alloc: Global,
     symbols: &[Symbol],
@@ -162,7 +162,7 @@ fn items_at(
     Err(Stop::WrongSymbol(next))
 }
 
-/// The items from `at` on, if any, up to a `)`.
+/// Reads the items starting at token `at`, if any, up to a `)`.
 fn list_at(
     alloc: Global,
     symbols: &[Symbol],
@@ -179,7 +179,7 @@ fn list_at(
     }
 }
 
-/// The entry at `at`.
+/// Reads the entry at token `at`.
 fn entry_at(
     alloc: Global,
     symbols: &[Symbol],

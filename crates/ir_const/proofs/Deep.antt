@@ -57,7 +57,7 @@ cut_stopped {L = L} g ends view text toks from short count e fits some k low (t 
     ∙ two_parts k (from + count) (symbols_of text toks) low in
     rw same (k, omega arith, refl, subst (λ z. Reads L (symbols_from text toks from) (Wrong z)) line answer.0, answer.1)
 
--- the tokens were cut behind a bracket
+-- the tokens were cut after a bracket
 cut_answers : {V A : Type 0} {n : ℕ} {L : Lang Symbol V} {r : Reader Symbol V} → Good n L r never → Ends closed_end L → (view : A → V) (text : List ℕ) (toks : List Token) (from : ℕ)
     → length (symbols_from text toks from) ≤ n → (count : ℕ) → deep_len 0 (symbols_from text toks from) ≡ Some count → from + count ≤ length toks → 0 < count
     → (result : Result (A × ℕ) Stop) → Gives view (take (from + count) (symbols_of text toks)) result (r (take count (symbols_from text toks from)))

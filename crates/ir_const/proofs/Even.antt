@@ -17,7 +17,8 @@ Closes t = (n : ℕ) → open_behind (n + 1) t ≡ n
 abbrev pub IsPlain : Symbol → Type 0
 IsPlain t = (n : ℕ) → open_behind n t ≡ n
 
--- behind ts as many brackets are open as before it; a front behind which none is open, where some were before it, goes past ts
+-- after ts as many brackets are open as before it; a front after which none is open, where some were before
+-- it, goes past ts
 pub record IsEven (ts : List Symbol) : Type 0 where
   pub level : (n : ℕ) → open_from n ts ≡ n
   pub past : (n : ℕ) → 0 < n → (rest p q : List Symbol) → ts ++ rest ≡ p ++ q → open_from n p ≡ 0 → (u : List Symbol) × (p ≡ ts ++ u)
@@ -57,7 +58,8 @@ even_append xs ys even_x even_y = record {
   past = append_past xs ys even_x even_y;
 }
 
--- what stands in brackets: a front behind which none is open, where more were before it, goes past the closing bracket
+-- what stands in brackets: a front after which none is open, where more were before it, goes past the closing
+-- bracket
 pub closed_past : (body : List Symbol) (close : Symbol) → IsEven body → (n : ℕ) → 0 < n → (rest p q : List Symbol) → body ++ (close ∷ rest) ≡ p ++ q → open_from n p ≡ 0
     → (u : List Symbol) × (p ≡ body ++ (close ∷ u))
 closed_past body close even n some rest p q e none =
@@ -171,7 +173,7 @@ closed_skip f h g = record {
       };
 }
 
--- an opening bracket, and what is closed behind it
+-- an opening bracket, and what is closed after it
 pub evens_bracket : {K V : Type 0} {a : Lang Symbol V} (f : Symbol → Option K) → ((t : Symbol) (k : K) → f t ≡ Some k → Opens t) → AreClosed a → Evens (skip f a)
 evens_bracket f h g = record {
   at = λ ts v word.

@@ -49,7 +49,7 @@ reach_shallow n [] h = refl
 reach_shallow n (t ∷ ts) h =
     shallow_step n t ts (open_behind n t == 65) ((open_behind n t == 0) && not (is_address_word t)) refl (reach_shallow (open_behind n t) ts) h
 
--- these symbols end in one that is no word of an address, and behind them no bracket is open
+-- these symbols end in one that is no word of an address, and after them no bracket is open
 pub record IsShut (n : ℕ) (ts : List Symbol) : Type 0 where
   pub front : List Symbol
   pub last : Symbol

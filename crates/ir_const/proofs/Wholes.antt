@@ -113,7 +113,7 @@ words_end (w ∷ words) rest go_on last (x ∷ front) t q e none other =
     let level : open_behind 0 x ≡ 0 = ap (open_behind 0) (sym same) ∙ word_plain w (and_left _ _ go_on) 0 in
     words_end words rest (and_right _ _ go_on) last front t q tail (ap (λ z. open_from z (front ++ t ∷ [])) (sym level) ∙ none) other
 
--- a front of it behind which no bracket is open is all of it, but where it ends in a word of an address
+-- a front of it after which no bracket is open is all of it, but where it ends in a word of an address
 pub whole_ends : (ts : List Symbol) → IsWhole ts → (front : List Symbol) (t : Symbol) (q : List Symbol) → ts ≡ (front ++ t ∷ []) ++ q
     → open_from 0 (front ++ t ∷ []) ≡ 0 → is_address_word t ≡ false → q ≡ []
 whole_ends ts g front t q e none other = words_end g.words g.rest g.go_on g.last front t q (sym g.cut ∙ e) none other
@@ -148,7 +148,7 @@ curly_opens = mark_of 123 Opens (λ n. refl)
 round_opens : (t : Symbol) (k : Mark) → punct 40 t ≡ Some k → Opens t
 round_opens = mark_of 40 Opens (λ n. refl)
 
--- a symbol in front of what is closed
+-- a symbol before what is closed
 bracket_whole : (s : Symbol) (q ts : List Symbol) → ts ≡ s ∷ q → Opens s → IsClosed q → IsWhole ts
 bracket_whole s q ts cut opens closed = record {
   words = [];

@@ -14,9 +14,10 @@ use Rattle.ir_const.specs.declared.error.ReadError.TheVariants.{Deep, Syntax, Ou
 abbrev pub symbols_from : List ℕ → List Token → ℕ → List Symbol
 symbols_from text toks k = drop k (symbols_of text toks)
 
--- `Ok`: the value, seen by view, that the tokens from there on spell, and the number of the token behind them, and no brackets nest too deep.
--- `Syntax`: the place of the first wrong token, where no tokens from there on spell a value and no brackets nest too deep.
--- `Deep`: the place of the first bracket that is the 65th open one, where the tokens up to and with it begin to spell a value.
+-- `Ok`: the value, seen by view, that the tokens from there on spell, and the number of the next token, and
+-- no brackets nest too deep. `Syntax`: the place of the first wrong token, where no tokens from there on
+-- spell a value and no brackets nest too deep. `Deep`: the place of the first bracket that is the 65th open
+-- one, where the tokens up to and with it begin to spell a value.
 abbrev pub Answers : {V A : Type 0} → Lang Symbol V → (A → V) → List ℕ → List Token → ℕ → Result (A × ℕ) ReadError → Type 0
 Answers L view text toks from (Ok x) =
     Reads L (symbols_from text toks from) (Got (view x.0) (symbols_from text toks x.1)) × (x.1 ≤ length toks) × IsShallow L (symbols_from text toks from)

@@ -15,9 +15,9 @@ is_address_word _ = false
 abbrev pub one_more : ℕ × Bool → ℕ × Bool
 one_more r = (suc r.0, r.1)
 
--- where n brackets are open before these symbols: they go up to and with the first bracket that is the 65th open one, or up to and with the
--- first symbol but those words behind which none is open, whichever comes first, or else to the end. How many symbols, and whether the last one is
--- such a bracket.
+-- where n brackets are open before these symbols: they go up to and with the first bracket that is the 65th
+-- open one, or up to and with the first symbol but those words after which none is open, whichever comes
+-- first, or else to the end. How many symbols, and whether the last one is such a bracket.
 unfoldable pub reach : ℕ → List Symbol → ℕ × Bool
 reach n [] = (0, false)
 reach n (t ∷ ts) =

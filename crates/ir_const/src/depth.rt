@@ -10,7 +10,7 @@ ghost use Rattle.ir_const.specs.Places.{cut_of};
 use ir_cursor::{Meaning, meaning_of};
 use ir_lex::Token;
 
-/// How many brackets are open behind a token, where `depth` are before it.
+/// Returns how many brackets are open after a token, where `depth` are before it.
 pub fn open_behind(text: &[u8], token: &Token, depth: usize) -> usize
     requires { depth < 65 }
     ensures { result ≡ open_behind depth (symbol_of text.now token.now) }
@@ -22,7 +22,7 @@ pub fn open_behind(text: &[u8], token: &Token, depth: usize) -> usize
     }
 }
 
-/// The number of the token behind the first bracket that is the 65th open one, counted from `from`.
+/// Returns the number of the token after the first bracket that is the 65th open one, counted from `from`.
 pub fn deep_end(text: &[u8], toks: &[Token], from: usize) -> Option<usize>
     requires { from ≤ length toks.now }
     ensures deep { result ≡ cut_of from (deep_len 0 (symbols_from text.now toks.now from)) }

@@ -30,7 +30,7 @@ pub enum ReadError {
     OutOfMemory,
 }
 
-/// The offset of the token of that number, or the length of the text behind the last one.
+/// Returns the offset of the token of that number, or the length of the text after the last one.
 pub fn place_of(text: &[u8], toks: &[Token], number: usize) -> usize
     ensures { result ≡ place_of text.now toks.now number }
 {
@@ -40,7 +40,7 @@ pub fn place_of(text: &[u8], toks: &[Token], number: usize) -> usize
     }
 }
 
-/// The error where a reader stopped that was given the tokens so far.
+/// Returns the error where a reader stopped that was given the tokens so far.
 pub fn error_of(text: &[u8], toks: &[Token], reach: Reach, stop: Stop) -> ReadError
     ensures { result ≡ error_of text.now toks.now reach.deep reach.end stop }
 {

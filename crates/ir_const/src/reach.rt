@@ -12,13 +12,14 @@ use ir_lex::{Keyword, Token};
 /// How far one type or constant goes at most.
 #[derive(Clone, Copy)]
 pub struct Reach {
-    /// The number of the token behind it.
+    /// The number of the next token.
     pub end: usize,
     /// Whether its last token is the first bracket that is the 65th open one.
     pub deep: bool,
 }
 
-/// Whether a token is `getelementptr` or a flag of it, behind which a constant goes on though no bracket is open.
+/// Tells whether a token is `getelementptr` or a flag of it, after which a constant goes on though no bracket
+/// is open.
 fn is_address_word(text: &[u8], token: &Token) -> bool
     ensures { result ≡ is_address_word (symbol_of text.now token.now) }
 {
@@ -28,8 +29,9 @@ fn is_address_word(text: &[u8], token: &Token) -> bool
     }
 }
 
-/// How far the type or constant that begins at `from` goes at most: up to and with the first bracket that is the 65th open one, counted from
-/// there, or to where its first bracket is closed, whichever comes first. So what stands behind it isn't looked at.
+/// Returns how far the type or constant that begins at `from` goes at most: up to and with the first bracket
+/// that is the 65th open one, counted from there, or to where its first bracket is closed, whichever comes
+/// first. So what stands after it isn't looked at.
 pub fn reach_of(text: &[u8], toks: &[Token], from: usize) -> Reach
     requires { from ≤ length toks.now }
     ensures end { result.end ≡ from + (reach 0 (symbols_from text.now toks.now from)).0 }

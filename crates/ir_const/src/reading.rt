@@ -16,12 +16,12 @@ use ir_tree::names::Names;
 use ir_tree::types::{Const, Ty};
 use std::alloc::Global;
 
-/// Reads the type that begins at the token numbered `from`, and gives it with the number of the token
-/// behind it. Its names are numbered in `names`, which only grows, also where an error is answered.
+/// Reads the type that begins at the token numbered `from`, and gives it with the number of the next token.
+/// Its names are numbered in `names`, which only grows, also where an error is answered.
 ///
-/// The tokens are those of a text, or what was kept of them. There is room for a name a token. The time
-/// is linear in the tokens of the type; where none begins there, in those up to the wrong one and a closing
-/// bracket behind it.
+/// The tokens are those of a text, or what was kept of them. There is room for a name a token. The time is
+/// linear in the tokens of the type; where none begins there, in those up to the wrong one and a closing
+/// bracket after it.
 ///
 /// # Errors
 ///

@@ -32,7 +32,7 @@ pub enum Meaning {
     Other,
 }
 
-/// What a token means.
+/// Returns what a token means.
 #[tactic(auto, using(crate::proofs::Cursor::number_found, crate::proofs::Cursor::no_number, crate::proofs::Cursor::mark_found, crate::proofs::Cursor::no_mark))]
 pub fn meaning_of(text: &[u8], token: &Token) -> Meaning
     ensures { symbol_from text.now result ≡ symbol_of text.now token.now }
@@ -55,7 +55,7 @@ pub fn meaning_of(text: &[u8], token: &Token) -> Meaning
     }
 }
 
-/// What the token of that number means; `None` behind the last one.
+/// Returns what the token of that number means; `None` after the last one.
 #[tactic(auto, using(crate::proofs::Cursor::drop_symbols, crate::proofs::Cursor::drop_end, crate::proofs::Cursor::within_symbols))]
 pub fn meaning_at(text: &[u8], toks: &[Token], at: usize) -> Option<Meaning>
     requires { at ≤ length (symbols_of text.now toks.now) }
@@ -70,7 +70,7 @@ pub fn meaning_at(text: &[u8], toks: &[Token], at: usize) -> Option<Meaning>
     }
 }
 
-/// The number of the token behind a mark, which has to be at `at`.
+/// Returns the number of the token after a mark, which has to be at `at`.
 pub fn mark_at(text: &[u8], toks: &[Token], at: usize, mark: u8) -> Result<usize, Stop>
     requires { at ≤ length (symbols_of text.now toks.now) }
     ensures steps { Steps (symbols_of text.now toks.now) result
@@ -83,7 +83,7 @@ pub fn mark_at(text: &[u8], toks: &[Token], at: usize, mark: u8) -> Result<usize
     }
 }
 
-/// The number of the token behind a mark, where it is at `at`.
+/// Returns the number of the token after a mark, where it is at `at`.
 pub fn after_mark(text: &[u8], toks: &[Token], at: usize, mark: u8) -> Option<usize>
     requires { at ≤ length (symbols_of text.now toks.now) }
     ensures tries { Tries (punct mark) (symbols_of text.now toks.now) result

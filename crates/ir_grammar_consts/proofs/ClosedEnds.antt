@@ -36,7 +36,7 @@ whole_const_end : (s : Symbol) (c : ConstShape) → const_head s ≡ Some (Whole
 whole_const_end (MarkSymbol b) c h = absurd (const_bracket_not_whole _ _ _ c h)
 whole_const_end _ c h = refl
 
--- the last symbol of a list behind a first one
+-- the last symbol of a list after a first one
 abbrev Last : List Symbol → Type 0
 Last ts = (front : List Symbol) × (t : Symbol) × (ts ≡ front ++ t ∷ []) × (closed_end t ≡ true)
 

@@ -38,7 +38,7 @@ opened_low n b true c low e = let no : n + 1 ≡ 65 → ⊥ = λ h. let yes : (n
 opened_low n b false true low e = omega arith
 opened_low n b false false low e = low
 
--- a symbol behind which not 65 brackets are open leaves at most 64 open
+-- a symbol after which not 65 brackets are open leaves at most 64 open
 pub behind_low : (n : ℕ) (t : Symbol) → n ≤ 64 → (open_behind n t == 65) ≡ false → open_behind n t ≤ 64
 behind_low n (MarkSymbol b) low e = opened_low n b (is_opening b) (is_closing b) low e
 behind_low n _ low e = low

@@ -12,12 +12,12 @@ is_opening b = (b == 40) || (b == 91) || (b == 123) || (b == 60)
 abbrev pub is_closing : ℕ → Bool
 is_closing b = (b == 41) || (b == 93) || (b == 125) || (b == 62)
 
--- how many brackets are open behind a symbol, where n are open before it
+-- how many brackets are open after a symbol, where n are open before it
 abbrev pub open_behind : ℕ → Symbol → ℕ
 open_behind n (MarkSymbol b) = if is_opening b then n + 1 else (if is_closing b then n - 1 else n)
 open_behind n _ = n
 
--- how many brackets are open behind these symbols, where n are open before them
+-- how many brackets are open after these symbols, where n are open before them
 unfoldable pub open_from : ℕ → List Symbol → ℕ
 open_from n [] = n
 open_from n (t ∷ ts) = open_from (open_behind n t) ts

@@ -50,7 +50,7 @@ unfoldable mutual
   const_spelling (address inbounds t base row) =
       KeywordSymbol GetElementPtr ∷ (flag_spelling inbounds ++ MarkSymbol 40 ∷ (ty_spelling t ++ MarkSymbol 44 ∷ (typed_spelling base ++ (typed_more_spelling row ++ MarkSymbol 41 ∷ []))))
 
-  -- a constant behind its type
+  -- a constant after its type
   pub typed_spelling : TypedShape → List Symbol
   typed_spelling (typed t c) = ty_spelling t ++ const_spelling c
 

@@ -21,7 +21,7 @@ spelled_val (fixed c) h = inr (c, spelled_const c h, refl)
 pub spelled_ty_val : (v : TyValShape) → FitsTyVal v → ty_val (ty_val_spelling v) v
 spelled_ty_val v h = ((v.ty, v.val), (ty_spelling v.ty, val_spelling v.val, refl, spelled_ty v.ty h.0, spelled_val v.val h.1), refl)
 
--- behind a comma
+-- after a comma
 pub spelled_more : {V : Type 0} (a : Lang Symbol V) (spelling : V → List Symbol) (v : V) → a (spelling v) v → skip (punct 44) a (more spelling v) v
 spelled_more a spelling v word = (MarkSymbol 44, spelling v, mark, refl, refl, word)
 

@@ -15,7 +15,7 @@ use Rattle.ir_grammar_consts.specs.Types.{ty, run_ty}
 use Rattle.ir_grammar_consts.specs.Constants.{address_flags, run_address_flags}
 use Rattle.ir_grammar_insts.specs.Operands.{global_name, ty_val, more_ty_val, run_ty_val, run_more_ty_val}
 
--- how many there are, behind a type that is dropped; one where nothing is said
+-- how many there are, after a type that is dropped; one where nothing is said
 abbrev pub count_of : Option (TyShape × ℤ) → ℤ
 count_of None = pos 1
 count_of (Some v) = v.1

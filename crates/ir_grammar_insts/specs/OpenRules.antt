@@ -1,5 +1,5 @@
--- What it means that the reader of an open rule is right: some symbols go on with what was read, as a comma with the operands of
--- an instruction, so a front of a list counts only where none of those stands behind it.
+-- What it means that the reader of an open rule is right: some symbols go on with what was read, as a comma
+-- with the operands of an instruction, so a front of a list counts only where none of those stands after it.
 use Rattle.std.specs.Prelude.{◌≡◌, Bool, false, List, ◌++◌}
 use Rattle.grammar.specs.Language.{Lang}
 use Rattle.grammar.specs.Reader.{Out, Got, Wrong, opens}

@@ -64,7 +64,7 @@ val_spelling (fixed c) = const_spelling c
 abbrev pub ty_val_spelling : TyValShape → List Symbol
 ty_val_spelling v = ty_spelling v.ty ++ val_spelling v.val
 
--- behind a comma
+-- after a comma
 abbrev pub more : {V : Type 0} → (V → List Symbol) → V → List Symbol
 more spelling v = MarkSymbol 44 ∷ spelling v
 
@@ -94,7 +94,7 @@ phi_input_spelling v = MarkSymbol 91 ∷ ((val_spelling v.val ++ (MarkSymbol 44 
 abbrev pub case_spelling : CaseShape → List Symbol
 case_spelling v = ty_spelling v.ty ++ (NumberSymbol v.value ∷ more target_spelling v.to)
 
--- a count of an alloca behind a comma and the type `i64`; one is left out
+-- a count of an alloca after a comma and the type `i64`; one is left out
 abbrev pub count_written : ℤ → List Symbol
 count_written z = MarkSymbol 44 ∷ KeywordSymbol (Integer 64) ∷ NumberSymbol z ∷ []
 

@@ -1,4 +1,5 @@
--- The lines of a block, told by their first symbol and by the word behind a result, are the lines as they are written.
+-- The lines of a block, told by their first symbol and by the word after a result, are the lines as they are
+-- written.
 use Rattle.std.proofs.Common.{◌≡◌, ℕ, List, [], ◌∷◌, ◌++◌, Option, None, Some, inl, inr, refl, sym, ◌∙◌, ap, append_assoc}
 use Rattle.grammar.specs.Language.{Lang, seq, map_to, maybe, many, or_else, cons}
 use Rattle.ir_tree.specs.Shape.{BodyShape, InstShape}

@@ -1,6 +1,6 @@
--- The grammar of blocks, and its readers:
---     block = [ Label ] { [ Local "=" ] phi } { [ Local "=" ] inst } term
--- Whether a line that begins with `Local "="` is a phi is told by the word behind it, so the readers go line by line.
+-- The grammar of blocks, and its readers: block = [ Label ] { [ Local "=" ] phi } { [ Local "=" ] inst } term
+-- Whether a line that begins with `Local "="` is a phi is told by the word after it, so the readers go line
+-- by line.
 use Rattle.std.specs.Prelude.{ℕ, zero, suc, Bool, true, ◌||◌, List, [], ◌∷◌, ◌++◌, Option, None, Some}
 use Rattle.grammar.specs.Language.{Lang, one, seq, map_to, maybe, many, or_else, up_to}
 use Rattle.grammar.specs.Reader.{Reader, Wrong, heads, run_one, run_seq, run_map, run_maybe, run_many, run_or, run_up_to}
@@ -68,9 +68,9 @@ FirstBlock = Option (List ℕ) × List InstShape
 abbrev pub first_block : Lang Symbol FirstBlock
 first_block = seq (maybe (one label_name)) lines
 
--- The same lines, told by their first symbol and by the word behind `Local "="`; more is what follows a phi.
+-- The same lines, told by their first symbol and by the word after `Local "="`; more is what follows a phi.
 
--- what a line does and the lines after it, behind a result or without one
+-- what a line does and the lines after it, after a result or without one
 abbrev pub with_result : List ℕ × (BodyShape × List InstShape) → List InstShape
 with_result v = line_of (Some v.0, v.1.0) ∷ v.1.1
 

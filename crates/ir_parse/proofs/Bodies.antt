@@ -1,4 +1,5 @@
--- The blocks of a function: those read so far are what the reader on symbols gives, and their pieces stand one behind another.
+-- The blocks of a function: those read so far are what the reader on symbols gives, and their pieces stand
+-- one after another.
 use Rattle.std.proofs.Common.{◌≡◌, ℕ, suc, ◌+◌, ◌≤◌, Bool, true, false, List, [], ◌∷◌, ◌++◌, length, map, drop, slice_range, Option, option_map, refl, sym, ◌∙◌, ap, subst, arith, append_assoc, Vec}
 use Rattle.std.specs.List.{list_all}
 use Rattle.std.specs.declared.alloc.Global.{Global}
@@ -50,7 +51,7 @@ blocks_start budget text toks names at h = record {
   after = omega arith;
 }
 
--- what is read from a number on ends behind it
+-- what is read from a number on ends after it
 pub grown_after : {old new : List (List ℕ)} → Grows old new → (at last : ℕ) → length new + at ≤ length old + last → at ≤ last
 grown_after g at last h = omega (arith, grows_length g)
 

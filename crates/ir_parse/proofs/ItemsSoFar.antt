@@ -1,4 +1,5 @@
--- The items of a module: those read so far are what the reader on symbols gives, and their pieces stand one behind another.
+-- The items of a module: those read so far are what the reader on symbols gives, and their pieces stand one
+-- after another.
 use Rattle.std.proofs.Common.{◌≡◌, ℕ, zero, suc, ◌+◌, ◌≤◌, ◌<◌, true, false, List, [], ◌∷◌, ◌++◌, length, map, drop, slice_range, refl, sym, ◌∙◌, ap, subst, arith}
 use Rattle.grammar.specs.Reader.{Out, Got, then_out, heads, opens, run_many}
 use Rattle.grammar.specs.Code.{Stops}

@@ -39,7 +39,7 @@ draft_known count d =
     list_all (named_ty_known count) d.types.items && list_all (global_known count) d.globals.items
     && list_all (declare_known count) d.declares.items && list_all (function_known count) d.functions.items
 
--- a module with one item more, behind those of its kind
+-- a module with one item more, after those of its kind
 abbrev pub with_last : ItemShape → ModuleShape → ModuleShape
 with_last (type_item v) m = record { types = m.types ++ v ∷ []; globals = m.globals; declares = m.declares; functions = m.functions }
 with_last (global_item v) m = record { types = m.types; globals = m.globals ++ v ∷ []; declares = m.declares; functions = m.functions }

@@ -26,7 +26,7 @@ pub struct Draft {
 }
 
 impl Draft {
-    /// No items.
+    /// Makes a table without items.
     pub fn new(alloc: Global) -> Draft
         ensures shape { (names : List (List ℕ)) → draft_shape names result ≡ record { types = []; globals = []; declares = []; functions = [] } }
         ensures spots { lists_of result.spots ≡ record { types = []; globals = []; declares = []; functions = []; insts = [] } }
@@ -47,7 +47,7 @@ impl Draft {
         }
     }
 
-    /// Adds an item that begins at that offset, behind those of its kind.
+    /// Adds an item that begins at that offset, after those of its kind.
     pub fn add(&mut self, item: Item, spot: usize) -> Result<(), AllocError>
         ensures shape { (names : List (List ℕ)) → OnOk result
             (draft_shape names self.new ≡ with_last (item_shape names item) (draft_shape names self.old)) }

@@ -43,14 +43,14 @@ pub struct SpottedFunction {
     pub spots: Vec<Vec<usize>>,
 }
 
-/// The name of a number; a number that isn't in the table has the empty one.
+/// Returns the name of a number; a number that isn't in the table has the empty one.
 fn name_of(names: &Names, id: NameId) -> &[u8]
     ensures { result.now ≡ text_of names.now id.0 }
 {
     names.text(id).unwrap_or(b"")
 }
 
-/// Whether a parameter has no name, or a name of digits alone.
+/// Tells whether a parameter has no name, or a name of digits alone.
 fn is_numbered(names: &Names, param: &Param) -> bool
     ensures { result ≡ is_numbered (param_shape names.now param.now) }
 {
@@ -60,7 +60,7 @@ fn is_numbered(names: &Names, param: &Param) -> bool
     }
 }
 
-/// How many parameters have no name, or a name of digits alone.
+/// Returns how many parameters have no name, or a name of digits alone.
 fn numbered_count(names: &Names, params: &[Param]) -> usize
     ensures count { result ≡ count_by (λ p. is_numbered (param_shape names.now p)) params.now }
 {
@@ -70,8 +70,8 @@ fn numbered_count(names: &Names, params: &[Param]) -> usize
         .count()
 }
 
-/// The name of the first block: its label, or else the number of parameters that have no name or a name of
-/// digits alone.
+/// Returns the name of the first block: its label, or else the number of parameters that have no name or a
+/// name of digits alone.
 fn first_name(
     alloc: Global,
     params: &[Param],
@@ -96,7 +96,7 @@ fn first_name(
     }
 }
 
-/// The number of the token behind the `define` at `at`.
+/// Returns the number of the token after the `define` at `at`.
 fn define_at(text: &[u8], toks: &[Token], at: usize) -> Result<usize, Stop>
     requires { at ≤ length (symbols_of text.now toks.now) }
     ensures steps { Steps (symbols_of text.now toks.now) result
@@ -109,7 +109,7 @@ fn define_at(text: &[u8], toks: &[Token], at: usize) -> Result<usize, Stop>
     }
 }
 
-/// The blocks from `at` on, if any, each with a label, up to a `}`.
+/// Reads the blocks starting at token `at`, if any, each with a label, up to a `}`.
 fn more_blocks_at(
     alloc: Global,
     text: &[u8],
@@ -146,7 +146,7 @@ fn more_blocks_at(
     Err(Stop::WrongSymbol(next))
 }
 
-/// The blocks of a function with these parameters from `at` on, up to a `}`.
+/// Reads the blocks of a function with these parameters starting at token `at`, up to a `}`.
 fn blocks_at(
     alloc: Global,
     text: &[u8],
@@ -184,8 +184,8 @@ fn blocks_at(
     Ok((Blocks { blocks, spots }, end))
 }
 
-/// The function that is defined at `at`, and the number of the token behind it. At most `budget` tokens are
-/// read.
+/// Reads the function that is defined at token `at`. Returns it and the number of the next token. At most
+/// `budget` tokens are read.
 pub fn function_line_at(
     alloc: Global,
     text: &[u8],

@@ -32,7 +32,7 @@ pub enum Item {
     Defined(SpottedFunction),
 }
 
-/// Whether an item begins at `at`.
+/// Tells whether an item begins at `at`.
 pub fn begins_item(text: &[u8], toks: &[Token], at: usize) -> bool
     requires { at ≤ length (symbols_of text.now toks.now) }
     ensures { result ≡ opens begins_item (drop at (symbols_of text.now toks.now)) }
@@ -46,7 +46,8 @@ pub fn begins_item(text: &[u8], toks: &[Token], at: usize) -> bool
     }
 }
 
-/// The item at `at`, and the number of the token behind it. At most `budget` tokens are read.
+/// Reads the item at token `at`. Returns it and the number of the next token. At most `budget` tokens are
+/// read.
 pub fn item_at(
     alloc: Global,
     text: &[u8],

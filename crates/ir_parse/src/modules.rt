@@ -23,7 +23,7 @@ use ir_tree::parsed::Parsed;
 use sha2::{Digest, Sha256};
 use std::alloc::Global;
 
-/// The items from the first token on, as far as they go, and the number of the token behind them.
+/// Returns the items from the first token on, as far as they go, and the number of the next token.
 fn items_at(
     alloc: Global,
     text: &[u8],
@@ -51,7 +51,7 @@ fn items_at(
     Ok((draft, next))
 }
 
-/// Why there is no module, where the reader of the items stopped so.
+/// Tells why there is no module, where the reader of the items stopped so.
 fn error_of(text: &[u8], toks: &[Token], stop: Stop) -> ParseError
     ensures { result ≡ error_of text.now toks.now stop }
 {
@@ -63,7 +63,7 @@ fn error_of(text: &[u8], toks: &[Token], stop: Stop) -> ParseError
     }
 }
 
-/// The module that all tokens spell, however many brackets are open.
+/// Returns the module that all tokens spell, however many brackets are open.
 pub fn module_of(alloc: Global, text: &[u8], toks: &[Token]) -> Result<Parsed, ParseError>
     requires { length toks.now < 2 ^ 31 }
     ensures reads { ReadsWhole text.now toks.now result }

@@ -1,4 +1,5 @@
--- The printed form of rows of symbols by their parts: what stands behind a plain symbol, and what begins a line.
+-- The printed form of rows of symbols by their parts: what stands after a plain symbol, and what begins a
+-- line.
 use Rattle.std.proofs.Common.{◌≡◌, ℕ, Bool, true, false, List, [], ◌∷◌, ◌++◌, map, refl, sym, ap, ◌∙◌, append-nil}
 use Rattle.std.specs.Prelude.{◌||◌, ◌&&◌}
 use Rattle.ir_words.specs.declared.words.Keyword.TheVariants.{To}
@@ -10,7 +11,7 @@ use Rattle.ir_print_consts.specs.Texts.{in_row}
 use Rattle.ir_print_consts.proofs.Rows.{Starts, opening_text, closed_text, spaced_text, last_of_end}
 use Rattle.ir_print.specs.Texts.{in_spaces, row_blank}
 
--- a row behind a plain symbol
+-- a row after a plain symbol
 abbrev pub behind : List Symbol → List ℕ
 behind ss = joined_behind (KeywordSymbol To) ss
 
@@ -23,7 +24,7 @@ Follows (s ∷ ss) = (is_mark 40 s ≡ false) × (is_mark 62 s ≡ false)
 abbrev pub Whole : List Symbol → Type 0
 Whole row = (is_opening (last_of (KeywordSymbol To) row) ≡ false) × (is_mark 60 (last_of (KeywordSymbol To) row) ≡ false)
 
--- a part of a row, and its text behind a plain symbol
+-- a part of a row, and its text after a plain symbol
 pub record Piece (row : List Symbol) (text : List ℕ) : Type 0 where
   pub follows : Follows row
   pub whole : Whole row
@@ -45,7 +46,7 @@ same_touch o c g p q x y r d e f h = rw (d, e, f, h) (by_cases c g q)
     by_cases false false true = refl
     by_cases false false false = refl
 
--- what stands behind a symbol that doesn't open stands behind each such symbol
+-- what stands after a symbol that doesn't open stands after each such symbol
 pub same_behind : (a : Symbol) (ss : List Symbol) → is_opening a ≡ false → is_mark 60 a ≡ false → Follows ss → joined_behind a ss ≡ behind ss
 same_behind a [] d e f = refl
 same_behind a (s ∷ ss) d e f =
@@ -116,7 +117,7 @@ comma_piece = record { follows = (refl, refl); whole = (refl, refl); spaced = re
 pub equals_piece : Piece (MarkSymbol 61 ∷ []) (32 ∷ 61 ∷ [])
 equals_piece = record { follows = (refl, refl); whole = (refl, refl); spaced = refl }
 
--- behind a comma
+-- after a comma
 pub more_piece : {V : Type 0} {spelling : V → List Symbol} {text : V → List ℕ} → ((v : V) → Item (spelling v) (text v)) → (v : V) → Piece (more spelling v) (44 ∷ 32 ∷ text v)
 more_piece each v = both comma_piece (each v).piece
 
@@ -126,7 +127,7 @@ bracket_item ss =
     let e : last_of (MarkSymbol 91) (ss ++ MarkSymbol 93 ∷ []) ≡ MarkSymbol 93 = last_of_end (MarkSymbol 91) (MarkSymbol 93) ss in
     item_from (MarkSymbol 91 ∷ (ss ++ MarkSymbol 93 ∷ [])) (91 ∷ (joined ss ++ 93 ∷ [])) (record { first = MarkSymbol 91; rest = ss ++ MarkSymbol 93 ∷ []; is = refl; apart = refl }) (refl, refl) (ap is_opening e, ap (is_mark 60) e) (ap (λ z. 91 ∷ z) (opening_text 91 (ss ++ MarkSymbol 93 ∷ []) refl ∙ closed_text ss 93 refl))
 
--- a part, and a row in parentheses behind it
+-- a part, and a row in parentheses after it
 pub parens_item : (row ss : List Symbol) (text gap : List ℕ) → Item row text → between (last_of (KeywordSymbol To) row) (MarkSymbol 40) ≡ gap
     → Item (row ++ MarkSymbol 40 ∷ (ss ++ MarkSymbol 41 ∷ [])) (text ++ (gap ++ (40 ∷ (joined ss ++ 41 ∷ []))))
 parens_item row ss text gap i e =
@@ -153,7 +154,7 @@ parens_item row ss text gap i e =
         none x xs h = cc
     first_follows (x ∷ a) b s f = f
 
--- a part, and `{` behind it
+-- a part, and `{` after it
 pub brace_text : {row : List Symbol} {text : List ℕ} → Item row text → joined (row ++ MarkSymbol 123 ∷ []) ≡ text ++ 32 ∷ 123 ∷ []
 brace_text {row} {text} i =
     let last : Symbol = last_of (KeywordSymbol To) row in

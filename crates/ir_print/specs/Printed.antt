@@ -11,7 +11,7 @@ use Rattle.ir_grammar_modules.specs.Spelling.{line_spelling, signature_spelling,
 abbrev pub outer : List Symbol → Line
 outer row = record { indent = []; row = row }
 
--- a phi, an instruction or a terminator, behind two blanks
+-- a phi, an instruction or a terminator, after two blanks
 abbrev pub inner : InstShape → Line
 inner v = record { indent = 32 ∷ 32 ∷ []; row = line_spelling v }
 

@@ -51,7 +51,7 @@ two_text t x y = type_text t ++ (32 ∷ (value_text x ++ (44 ∷ 32 ∷ value_te
 abbrev pub target_text : List ℕ → List ℕ
 target_text name = word_text Label ++ (32 ∷ local_text name)
 
--- a flag behind a blank, where it is set
+-- a flag after a blank, where it is set
 abbrev pub flag_part : Bool → Keyword → List ℕ
 flag_part false k = []
 flag_part true k = 32 ∷ word_text k

@@ -18,7 +18,7 @@ use ir_tree::names::Names;
 use ir_tree::types::{Const, Ty};
 use std::alloc::AllocError;
 
-/// The word of an operation.
+/// Returns the word of an operation.
 fn bin_word(operation: Bin) -> Keyword
     ensures { result ≡ bin_word operation }
 {
@@ -39,7 +39,7 @@ fn bin_word(operation: Bin) -> Keyword
     }
 }
 
-/// The word of what `icmp` asks.
+/// Returns the word of what `icmp` asks.
 fn pred_word(predicate: Pred) -> Keyword
     ensures { result ≡ pred_word predicate }
 {
@@ -57,7 +57,7 @@ fn pred_word(predicate: Pred) -> Keyword
     }
 }
 
-/// The word of a conversion.
+/// Returns the word of a conversion.
 fn conv_word(conversion: Conv) -> Keyword
     ensures { result ≡ conv_word conversion }
 {
@@ -68,7 +68,7 @@ fn conv_word(conversion: Conv) -> Keyword
     }
 }
 
-/// Appends a flag behind a blank, where it is set.
+/// Appends a flag after a blank, where it is set.
 fn push_flag(to: &mut Vec<u8>, is_set: bool, keyword: Keyword) -> Result<(), AllocError>
     ensures { OnOk result (to.new.items ≡ to.old.items ++ flag_part is_set keyword) }
 {
@@ -174,7 +174,7 @@ pub fn push_freeze(names: &Names, ty: &Ty, value: &Val, to: &mut Vec<u8>) -> Res
     Ok(())
 }
 
-/// Appends the count of an `alloca` behind a comma and its type; a count of one is left out.
+/// Appends the count of an `alloca` after a comma and its type; a count of one is left out.
 fn push_count(to: &mut Vec<u8>, count: i128) -> Result<(), AllocError>
     ensures { OnOk result (to.new.items ≡ to.old.items ++ count_part count) }
 {
@@ -248,7 +248,7 @@ pub fn push_gep(
     Ok(())
 }
 
-/// Whether a constant is the name of a global.
+/// Tells whether a constant is the name of a global.
 fn is_name(value: &Const) -> bool
     ensures { (names : List (List ℕ)) → result ≡ is_name (const_shape names value.now) }
 {
@@ -267,7 +267,7 @@ fn is_name(value: &Const) -> bool
     }
 }
 
-/// Appends what stands between a callee and `(`: nothing behind the name of a global.
+/// Appends what stands between a callee and `(`: nothing after the name of a global.
 fn push_gap(to: &mut Vec<u8>, is_name: bool) -> Result<(), AllocError>
     ensures { OnOk result (to.new.items ≡ to.old.items ++ callee_gap is_name) }
 {
@@ -348,7 +348,7 @@ fn push_input_row(names: &Names, inputs: &[PhiIn], to: &mut Vec<u8>) -> Result<(
     Ok(())
 }
 
-/// Appends what a phi takes behind a blank, if it takes anything.
+/// Appends what a phi takes after a blank, if it takes anything.
 fn push_inputs(names: &Names, inputs: &[PhiIn], to: &mut Vec<u8>) -> Result<(), AllocError>
     ensures { OnOk result (to.new.items ≡ to.old.items
         ++ (row_blank (map (phi_in_shape names.now) inputs.now) ++ in_row false (map input_text (map (phi_in_shape names.now) inputs.now)))) }

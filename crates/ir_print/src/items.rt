@@ -18,7 +18,7 @@ use ir_tree::names::{NameId, Names};
 use ir_tree::types::Ty;
 use std::alloc::AllocError;
 
-/// The word that says whether a global is constant.
+/// Returns the word that says whether a global is constant.
 fn constancy_word(is_constant: bool) -> Keyword
     ensures { result ≡ constancy_word is_constant }
 {
@@ -83,7 +83,7 @@ fn push_types(names: &Names, tys: &[Ty], to: &mut Vec<u8>) -> Result<(), AllocEr
     push_tys(names, tys, false, to)
 }
 
-/// Appends the name of a parameter behind a blank, if it has one.
+/// Appends the name of a parameter after a blank, if it has one.
 fn push_parameter_name(
     names: &Names,
     name: Option<NameId>,
@@ -123,7 +123,7 @@ fn push_parameters(names: &Names, params: &[Param], to: &mut Vec<u8>) -> Result<
     Ok(())
 }
 
-/// Appends what a signature begins with: behind a blank the type of what is returned, the name, and `(`.
+/// Appends what a signature begins with: after a blank the type of what is returned, the name, and `(`.
 fn push_signature_start(
     names: &Names,
     ret: &Ty,

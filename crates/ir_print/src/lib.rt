@@ -27,8 +27,8 @@ use crate::items::push_items;
 use ir_tree::module::Module;
 use std::alloc::{AllocError, Global};
 
-/// The text of a module, in time linear in its length. A name's number that isn't in the module's table stands for the
-/// empty name.
+/// Returns the text of a module, in time linear in its length. A name's number that isn't in the module's
+/// table stands for the empty name.
 ///
 /// # Errors
 ///
@@ -41,14 +41,14 @@ pub fn print(alloc: Global, module: &Module) -> Result<Vec<u8>, AllocError>
     Ok(text)
 }
 
-/// The lines of a module are its spelling, cut into lines.
+/// States that the lines of a module are its spelling, cut into lines.
 pub fn module_lines_are_its_spelling()
     ensures { (m : ModuleShape) → rows_of (module_lines m) ≡ module_spelling m }
 {}
 
-/// A printed module is read back: the tokens of the text mean its spelling, and the reader of modules gives the
-/// module again. So it is in any text that spells the module, with other blanks or on other lines, for whatever
-/// tokens that text has.
+/// States that a printed module is read back: the tokens of the text mean its spelling, and the reader of
+/// modules gives the module again. So it is in any text that spells the module, with other blanks or on other
+/// lines, for whatever tokens that text has.
 pub fn printed_modules_are_read_back()
     ensures spelled { (m : ModuleShape) → ArePrintable (module_spelling m) → Spells (module_text m) (module_spelling m) }
     ensures back { (m : ModuleShape) (text : List ℕ) (toks : List Token) → FitsModule m → Spells text (module_spelling m) → AreTokens text toks →
@@ -59,8 +59,9 @@ pub fn printed_modules_are_read_back()
         whole_module (symbols_of (module_text m) toks) m }
 {}
 
-/// Modules that were read are printed and read back: a module that the tokens of a text of bytes spell has a printable spelling, so
-/// it is spelled by its printed form, and whatever tokens that text has spell the module, and the reader gives it again.
+/// States that modules that were read are printed and read back: a module that the tokens of a text of bytes
+/// spell has a printable spelling, so it is spelled by its printed form, and whatever tokens that text has
+/// spell the module, and the reader gives it again.
 pub fn read_modules_are_read_back()
     ensures printable { (text : List ℕ) (toks : List Token) (m : ModuleShape) → AreBytes text → whole_module (symbols_of text toks) m →
         ArePrintable (module_spelling m) }

@@ -21,7 +21,7 @@ pub fn push_word(to: &mut Vec<u8>, keyword: Keyword) -> Result<(), AllocError>
     push_keyword(to, keyword)
 }
 
-/// Appends the word of a keyword behind a blank.
+/// Appends the word of a keyword after a blank.
 pub fn push_spaced_word(to: &mut Vec<u8>, keyword: Keyword) -> Result<(), AllocError>
     ensures { OnOk result (to.new.items ≡ to.old.items ++ 32 ∷ word_text keyword) }
 {
@@ -70,7 +70,7 @@ pub fn push_type(names: &Names, ty: &Ty, to: &mut Vec<u8>) -> Result<(), AllocEr
     push_ty(names, ty, to)
 }
 
-/// Appends a type behind a blank.
+/// Appends a type after a blank.
 pub fn push_spaced_type(names: &Names, ty: &Ty, to: &mut Vec<u8>) -> Result<(), AllocError>
     ensures { OnOk result (to.new.items ≡ to.old.items ++ 32 ∷ type_text (ty_shape names.now ty.now)) }
 {
@@ -97,7 +97,7 @@ pub fn push_value(names: &Names, value: &Val, to: &mut Vec<u8>) -> Result<(), Al
     }
 }
 
-/// Appends an operand behind a blank.
+/// Appends an operand after a blank.
 pub fn push_spaced_value(names: &Names, value: &Val, to: &mut Vec<u8>) -> Result<(), AllocError>
     ensures { OnOk result (to.new.items ≡ to.old.items ++ 32 ∷ value_text (val_shape names.now value.now)) }
 {
@@ -106,7 +106,7 @@ pub fn push_spaced_value(names: &Names, value: &Val, to: &mut Vec<u8>) -> Result
     Ok(())
 }
 
-/// Appends an operand behind its type.
+/// Appends an operand after its type.
 pub fn push_typed(names: &Names, operand: &TyVal, to: &mut Vec<u8>) -> Result<(), AllocError>
     ensures { OnOk result (to.new.items ≡ to.old.items ++ typed_text (ty_val_shape names.now operand.now)) }
 {
@@ -115,7 +115,7 @@ pub fn push_typed(names: &Names, operand: &TyVal, to: &mut Vec<u8>) -> Result<()
     Ok(())
 }
 
-/// Appends an operand with its type behind a blank.
+/// Appends an operand with its type after a blank.
 pub fn push_spaced_typed(names: &Names, operand: &TyVal, to: &mut Vec<u8>) -> Result<(), AllocError>
     ensures { OnOk result (to.new.items ≡ to.old.items ++ 32 ∷ typed_text (ty_val_shape names.now operand.now)) }
 {
@@ -124,7 +124,7 @@ pub fn push_spaced_typed(names: &Names, operand: &TyVal, to: &mut Vec<u8>) -> Re
     Ok(())
 }
 
-/// Appends an operand with its type behind a comma.
+/// Appends an operand with its type after a comma.
 pub fn push_more_typed(names: &Names, operand: &TyVal, to: &mut Vec<u8>) -> Result<(), AllocError>
     ensures { OnOk result (to.new.items ≡ to.old.items ++ 44 ∷ 32 ∷ typed_text (ty_val_shape names.now operand.now)) }
 {
@@ -133,7 +133,7 @@ pub fn push_more_typed(names: &Names, operand: &TyVal, to: &mut Vec<u8>) -> Resu
     Ok(())
 }
 
-/// Appends two operands of one type behind a blank.
+/// Appends two operands of one type after a blank.
 pub fn push_two(
     names: &Names,
     ty: &Ty,
@@ -151,7 +151,7 @@ pub fn push_two(
     Ok(())
 }
 
-/// Appends a block that a branch leads to, behind a blank.
+/// Appends a block that a branch leads to, after a blank.
 pub fn push_target(names: &Names, id: NameId, to: &mut Vec<u8>) -> Result<(), AllocError>
     ensures { OnOk result (to.new.items ≡ to.old.items ++ 32 ∷ target_text (name_shape names.now id)) }
 {
@@ -161,7 +161,7 @@ pub fn push_target(names: &Names, id: NameId, to: &mut Vec<u8>) -> Result<(), Al
     Ok(())
 }
 
-/// Appends a block that a branch leads to, behind a comma.
+/// Appends a block that a branch leads to, after a comma.
 pub fn push_more_target(names: &Names, id: NameId, to: &mut Vec<u8>) -> Result<(), AllocError>
     ensures { OnOk result (to.new.items ≡ to.old.items ++ 44 ∷ 32 ∷ target_text (name_shape names.now id)) }
 {

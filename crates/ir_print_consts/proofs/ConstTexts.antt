@@ -140,7 +140,7 @@ unfolding const_spelling typed_spelling typed_list_spelling typed_more_spelling
 fields_text vs packed =
     braces_text packed (typed_list_spelling (typed_row vs)) ∙ ap (λ z. open_brace packed ++ (z ++ close_brace packed)) (row_text vs)
 
--- the indices, each behind a comma, and `)`
+-- the indices, each after a comma, and `)`
 indices_text : (vs : List TypedShape) (a : Symbol)
     → joined_behind a (typed_more_spelling (typed_row vs) ++ MarkSymbol 41 ∷ []) ≡ in_row true (map (λ v. joined (typed_spelling v)) vs) ++ 41 ∷ []
 indices_text vs a =

@@ -38,7 +38,7 @@ tail_of ts s q e h = (subst AreReadable e h).1
 pub head_of : (ts : List Symbol) (s : Symbol) (q : List Symbol) → ts ≡ s ∷ q → AreReadable ts → IsReadable s
 head_of ts s q e h = (subst AreReadable e h).0
 
--- printable symbols, one behind another
+-- printable symbols, one after another
 pub printable_both : (p q : List Symbol) → ArePrintable p → ArePrintable q → ArePrintable (p ++ q)
 printable_both [] q h g = g
 printable_both (s ∷ p) q h g = (h.0, printable_both p q h.1 g)

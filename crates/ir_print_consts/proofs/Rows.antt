@@ -20,7 +20,7 @@ closing_text a b ss e =
     second_of_five (is_opening a) (is_closing (MarkSymbol b)) (is_global a && is_mark 40 (MarkSymbol b)) (is_mark 60 a && is_mark 123 (MarkSymbol b)) (is_mark 125 a && is_mark 62 (MarkSymbol b)) e in
     rw t refl
 
--- nothing stands behind what opens
+-- nothing stands after what opens
 pub opening_text : (b : ℕ) (ss : List Symbol) → is_opening (MarkSymbol b) ≡ true → joined_behind (MarkSymbol b) ss ≡ joined ss
 opening_text b [] e = refl
 opening_text b (s ∷ ss) e =
@@ -65,7 +65,7 @@ abbrev pub commas : List (List Symbol) → List Symbol
 commas [] = []
 commas (p ∷ ps) = (MarkSymbol 44 ∷ p) ++ commas ps
 
--- a row behind a comma, and what follows it
+-- a row after a comma, and what follows it
 pub comma_text : (row more : List Symbol) → Starts row
     → (text : List ℕ) → ((a : Symbol) → joined_behind a more ≡ text)
     → joined_behind (MarkSymbol 44) (row ++ more) ≡ 32 ∷ (joined row ++ text)

@@ -33,7 +33,7 @@ close_brace true = 125 ∷ 62 ∷ []
 abbrev pub ty_text : List (List ℕ) → Ty → List ℕ
 ty_text names t = joined (ty_spelling (ty_shape names t))
 
--- the flag of an address, behind a blank
+-- the flag of an address, after a blank
 abbrev pub flag_text : Bool → List ℕ
 flag_text false = []
 flag_text true = 32 ∷ text_of_symbol (KeywordSymbol InBounds)
@@ -42,10 +42,10 @@ flag_text true = 32 ∷ text_of_symbol (KeywordSymbol InBounds)
 abbrev pub const_text : List (List ℕ) → Const → List ℕ
 const_text names c = joined (const_spelling (const_shape names c))
 
--- the printed form of a constant behind its type
+-- the printed form of a constant after its type
 abbrev pub typed_text : List (List ℕ) → Typed → List ℕ
 typed_text names v = joined (typed_spelling (typed_shape names v))
 
--- what an address begins with: its flag, and behind a bracket the type that is stepped through and a comma
+-- what an address begins with: its flag, and after a bracket the type that is stepped through and a comma
 abbrev pub address_start : List (List ℕ) → Bool → Ty → List ℕ
 address_start names inbounds t = text_of_symbol (KeywordSymbol GetElementPtr) ++ (flag_text inbounds ++ (32 ∷ 40 ∷ (ty_text names t ++ 44 ∷ 32 ∷ [])))

@@ -11,21 +11,21 @@ use ir_tree::names::Names;
 use ir_tree::types::{Const, Ty, Typed};
 use std::alloc::AllocError;
 
-/// Appends the flag of an address behind a blank, where it is `inbounds`.
+/// Appends the flag of an address after a blank, where it is `inbounds`.
 fn push_flag(to: &mut Vec<u8>, inbounds: bool) -> Result<(), AllocError>
     ensures { OnOk result (to.new.items ≡ to.old.items ++ flag_text inbounds) }
 {
     to.extend_from_slice(if inbounds { b" inbounds" } else { b"" })
 }
 
-/// The word of a boolean.
+/// Returns the word of a boolean.
 fn word_of(value: bool) -> Keyword
     ensures { result ≡ (if value then True else False) }
 {
     if value { Keyword::True } else { Keyword::False }
 }
 
-/// Appends what an address begins with: its flag, and behind a bracket the type that is stepped through and a
+/// Appends what an address begins with: its flag, and after a bracket the type that is stepped through and a
 /// comma.
 fn push_address_start(
     names: &Names,
@@ -69,7 +69,7 @@ pub fn push_const(names: &Names, value: &Const, to: &mut Vec<u8>) -> Result<(), 
     }
 }
 
-/// Appends a constant behind its type.
+/// Appends a constant after its type.
 #[cycle(constants)]
 fn push_typed(names: &Names, typed: &Typed, to: &mut Vec<u8>) -> Result<(), AllocError>
     ensures { OnOk result (to.new.items ≡ to.old.items ++ typed_text names.now typed.now) }

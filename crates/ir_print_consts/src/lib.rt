@@ -26,9 +26,9 @@ pub use constants::push_const;
 pub use printing::{print_const, print_ty};
 pub use types::{name_of, push_comma, push_ty, push_tys};
 
-/// A printed type is read back, whatever printable symbols follow: the tokens of the text mean its spelling,
-/// and the reader of types gives the type again. So it is in any text that spells the type and what follows,
-/// with other blanks or on other lines, for whatever tokens that text has.
+/// States that a printed type is read back, whatever printable symbols follow: the tokens of the text mean
+/// its spelling, and the reader of types gives the type again. So it is in any text that spells the type and
+/// what follows, with other blanks or on other lines, for whatever tokens that text has.
 pub fn printed_types_are_read_back()
     ensures spelled { (t : TyShape) (rest : List Symbol) → ArePrintable (ty_spelling t ++ rest) →
         Spells (joined (ty_spelling t ++ rest)) (ty_spelling t ++ rest) }
@@ -40,7 +40,7 @@ pub fn printed_types_are_read_back()
         run_ty (length (symbols_of (joined (ty_spelling t ++ rest)) toks)) (symbols_of (joined (ty_spelling t ++ rest)) toks) ≡ Got t rest }
 {}
 
-/// A printed constant is read back, as a printed type is.
+/// States that a printed constant is read back, as a printed type is.
 pub fn printed_constants_are_read_back()
     ensures spelled { (c : ConstShape) (rest : List Symbol) → ArePrintable (const_spelling c ++ rest) →
         Spells (joined (const_spelling c ++ rest)) (const_spelling c ++ rest) }
@@ -52,8 +52,9 @@ pub fn printed_constants_are_read_back()
         run_const (length (symbols_of (joined (const_spelling c ++ rest)) toks)) (symbols_of (joined (const_spelling c ++ rest)) toks) ≡ Got c rest }
 {}
 
-/// Types that were read are printed and read back: of what the tokens of a text of bytes spell from some token on the spelling is
-/// printable, so it is spelled by its printed form, whatever printable symbols follow, and the reader gives it again.
+/// States that types that were read are printed and read back: of what the tokens of a text of bytes spell
+/// from some token on the spelling is printable, so it is spelled by its printed form, whatever printable
+/// symbols follow, and the reader gives it again.
 pub fn read_types_are_read_back()
     ensures printable { (text : List ℕ) (toks : List Token) (from : ℕ) (t : TyShape) (behind : List Symbol) → AreBytes text →
         Reads ty (drop from (symbols_of text toks)) (Got t behind) → ArePrintable (ty_spelling t) }
@@ -65,8 +66,9 @@ pub fn read_types_are_read_back()
         run_ty (length (symbols_of (joined (ty_spelling t ++ rest)) again)) (symbols_of (joined (ty_spelling t ++ rest)) again) ≡ Got t rest }
 {}
 
-/// Constants that were read are printed and read back: of what the tokens of a text of bytes spell from some token on the spelling is
-/// printable, so it is spelled by its printed form, whatever printable symbols follow, and the reader gives it again.
+/// States that constants that were read are printed and read back: of what the tokens of a text of bytes
+/// spell from some token on the spelling is printable, so it is spelled by its printed form, whatever
+/// printable symbols follow, and the reader gives it again.
 pub fn read_constants_are_read_back()
     ensures printable { (text : List ℕ) (toks : List Token) (from : ℕ) (c : ConstShape) (behind : List Symbol) → AreBytes text →
         Reads const (drop from (symbols_of text toks)) (Got c behind) → ArePrintable (const_spelling c) }

@@ -12,7 +12,7 @@ use ir_tree::names::{NameId, Names};
 use ir_tree::types::Ty;
 use std::alloc::AllocError;
 
-/// The name of a number; a number that isn't in the table has the empty one.
+/// Returns the name of a number; a number that isn't in the table has the empty one.
 pub fn name_of(names: &Names, id: NameId) -> &[u8]
     ensures { result.now ≡ text_of names.now id.0 }
 {

@@ -111,7 +111,7 @@ named_close {shape = shape} {front = front} {ss = ss} keeps m g e {new = new} gr
 pub typed_keep : Keeps typed_shape typed_known
 typed_keep = record { same = typed_shape-append; stays = typed_known-more }
 
--- the invariant of a loop over items up to a closing symbol, each behind a separator
+-- the invariant of a loop over items up to a closing symbol, each after a separator
 pub record NamedUntil {A V S C : Type 0} (shape : List (List ℕ) → A → V) (known : ℕ → A → Bool) (n : ℕ) (close : S → Option C)
     (item : Reader S V) (whole : Out S (List V)) (old names : List (List ℕ)) (front : List A) (ss : List S) (at next : ℕ) : Type 0 where
   pub left : UntilLeft n close item whole (map (shape names) front) ss next
@@ -154,7 +154,7 @@ pub skip_stops : {S V : Type 0} (separator : S → Option Mark) (item : Reader S
 skip_stops separator item ss ts (WrongSymbol k) h = (let same = h.0 in rw same refl, h.1)
 skip_stops separator item ss ts OutOfMemory h = tt
 
--- the item behind it stops
+-- the item after it stops
 pub skip_stops_in_item : {S K V : Type 0} (separator : S → Option K) (item : Reader S V) (ss ts q : List S) (k : K) → run_one separator ts ≡ Got k q
     → (e : Stop) → Stops ss e (item q) → Stops ss e (run_skip separator item ts)
 skip_stops_in_item separator item ss ts q k f (WrongSymbol j) h = (let same = h.0 in rw (f, same) refl, h.1)

@@ -42,7 +42,7 @@ pub enum Head {
     Address,
 }
 
-/// The head of the constant at `at`, and the number of the next token.
+/// Reads the head of the constant at token `at`. Returns it and the number of the next token.
 pub fn head_at(text: &[u8], toks: &[Token], at: usize) -> Result<(Head, usize), Stop>
     requires { at ≤ length (symbols_of text.now toks.now) }
     ensures reads { Gives (head_from text.now) (symbols_of text.now toks.now) result
@@ -67,7 +67,7 @@ pub fn head_at(text: &[u8], toks: &[Token], at: usize) -> Result<(Head, usize), 
     }
 }
 
-/// The flag of an address at `at`: whether it is `inbounds`.
+/// Reads the flag of an address at token `at`: whether it is `inbounds`.
 fn flag_at(text: &[u8], toks: &[Token], at: usize) -> Option<bool>
     requires { at ≤ length (symbols_of text.now toks.now) }
     ensures { MatchOption result (opens (heads address_flag) (drop at (symbols_of text.now toks.now)) ≡ false)
@@ -83,7 +83,7 @@ fn flag_at(text: &[u8], toks: &[Token], at: usize) -> Option<bool>
     }
 }
 
-/// Whether one of the flags from `at` on is `inbounds`, and the number of the token behind them. At
+/// Tells whether one of the flags starting at token `at` is `inbounds`, and the number of the next token. At
 /// most `budget` flags are read.
 pub fn flags_at(text: &[u8], toks: &[Token], at: usize, budget: usize) -> (bool, usize)
     requires { at ≤ length (symbols_of text.now toks.now) }
@@ -104,7 +104,7 @@ pub fn flags_at(text: &[u8], toks: &[Token], at: usize, budget: usize) -> (bool,
     (inbounds, next)
 }
 
-/// The bytes of a string.
+/// Returns the bytes of a string.
 pub fn bytes_of(alloc: Global, text: &[u8], token: &Token) -> Result<Vec<u8>, AllocError>
     ensures { IfOk result (λ bytes. bytes.items ≡ unescaped (text_spelling text.now token.now)) }
 {

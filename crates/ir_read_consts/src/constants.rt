@@ -33,7 +33,8 @@ pub struct Operands {
     pub indices: Vec<Typed>,
 }
 
-/// The constant at `at`, and the number of the token behind it. At most `budget` tokens are read.
+/// Reads the constant at token `at`. Returns it and the number of the next token. At most `budget` tokens are
+/// read.
 #[cycle(constants)]
 #[tactic(auto, using(crate::proofs::ConstSteps::run_const_none, crate::proofs::ConstSteps::run_const_some))]
 pub fn const_at(
@@ -59,7 +60,7 @@ pub fn const_at(
     rest_at(alloc, text, toks, next, budget - 1, head, names)
 }
 
-/// What follows the head of a constant, from `at` on.
+/// Reads what follows the head of a constant, starting at token `at`.
 #[cycle(constants)]
 fn rest_at(
     alloc: Global,
@@ -116,7 +117,7 @@ fn rest_at(
     }
 }
 
-/// The type and the constant at `at`.
+/// Reads the type and the constant at token `at`.
 #[cycle(constants)]
 pub fn typed_at(
     alloc: Global,
@@ -139,7 +140,7 @@ pub fn typed_at(
     Ok((Typed { ty, value }, end))
 }
 
-/// The constants with their types from `at` on, if any, up to the closing mark.
+/// Reads the constants with their types starting at token `at`, if any, up to the closing mark.
 #[cycle(constants)]
 fn list_at(
     alloc: Global,
@@ -174,7 +175,7 @@ fn list_at(
     Err(Stop::WrongSymbol(next))
 }
 
-/// The operands of an address from `at` on, up to a `)`.
+/// Reads the operands of an address starting at token `at`, up to a `)`.
 #[cycle(constants)]
 fn operands_at(
     alloc: Global,
@@ -199,7 +200,7 @@ fn operands_at(
     Ok((Operands { ty, base, indices }, end))
 }
 
-/// The constants with their types from `at` on, each behind a comma, up to a `)`.
+/// Reads the constants with their types starting at token `at`, each after a comma, up to a `)`.
 #[cycle(constants)]
 fn indices_at(
     alloc: Global,

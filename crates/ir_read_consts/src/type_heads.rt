@@ -34,7 +34,7 @@ pub enum Head {
     Packed,
 }
 
-/// The head of the type at `at`, and the number of the next token.
+/// Reads the head of the type at token `at`. Returns it and the number of the next token.
 pub fn head_at(text: &[u8], toks: &[Token], at: usize) -> Result<(Head, usize), Stop>
     requires { at ≤ length (symbols_of text.now toks.now) }
     ensures reads { Gives (head_from text.now) (symbols_of text.now toks.now) result
@@ -55,7 +55,7 @@ pub fn head_at(text: &[u8], toks: &[Token], at: usize) -> Result<(Head, usize), 
     }
 }
 
-/// The count of elements at `at`, and the number of the next token.
+/// Reads the count of elements at token `at`. Returns it and the number of the next token.
 pub fn count_at(text: &[u8], toks: &[Token], at: usize) -> Result<(u64, usize), Stop>
     requires { at ≤ length (symbols_of text.now toks.now) }
     ensures reads { Gives (λ n. n) (symbols_of text.now toks.now) result
@@ -70,7 +70,7 @@ pub fn count_at(text: &[u8], toks: &[Token], at: usize) -> Result<(u64, usize), 
     }
 }
 
-/// The number of the token behind an `x`, which has to be at `at`.
+/// Returns the number of the token after an `x`, which has to be at `at`.
 pub fn times_at(text: &[u8], toks: &[Token], at: usize) -> Result<usize, Stop>
     requires { at ≤ length (symbols_of text.now toks.now) }
     ensures steps { Steps (symbols_of text.now toks.now) result
@@ -83,7 +83,7 @@ pub fn times_at(text: &[u8], toks: &[Token], at: usize) -> Result<usize, Stop>
     }
 }
 
-/// The number of a token's name.
+/// Returns the number of a token's name.
 #[tactic(auto, using(crate::proofs::Counts::length_with_name))]
 pub fn name_number(
     alloc: Global,

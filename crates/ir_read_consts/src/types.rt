@@ -20,7 +20,8 @@ use ir_tree::names::Names;
 use ir_tree::types::Ty;
 use std::alloc::Global;
 
-/// The type at `at`, and the number of the token behind it. At most `budget` tokens are read.
+/// Reads the type at token `at`. Returns it and the number of the next token. At most `budget` tokens are
+/// read.
 #[cycle(types)]
 #[tactic(auto, using(crate::proofs::TypeSteps::run_ty_none, crate::proofs::TypeSteps::run_ty_some))]
 pub fn type_at(
@@ -46,7 +47,7 @@ pub fn type_at(
     rest_at(alloc, text, toks, next, budget - 1, head, names)
 }
 
-/// What follows the head of a type, from `at` on.
+/// Reads what follows the head of a type, starting at token `at`.
 #[cycle(types)]
 #[tactic(auto, using(ir_tree::proofs::Rows::struct_known))]
 fn rest_at(
@@ -94,7 +95,7 @@ fn rest_at(
     }
 }
 
-/// The types from `at` on, if any, up to a `}`.
+/// Reads the types starting at token `at`, if any, up to a `}`.
 #[cycle(types)]
 fn fields_at(
     alloc: Global,

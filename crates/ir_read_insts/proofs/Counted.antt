@@ -1,4 +1,4 @@
--- The count of `alloca`, behind a type that is dropped.
+-- The count of `alloca`, after a type that is dropped.
 use Rattle.std.proofs.Common.{◌≡◌, ℕ, ℤ, true, List, length, Option, ap, ◌∙◌}
 use Rattle.grammar.specs.Reader.{Out, Got, Wrong, then_out, heads, run_map, run_maybe}
 use Rattle.ir_lex.specs.Symbols.{Symbol}

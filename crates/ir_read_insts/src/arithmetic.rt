@@ -18,8 +18,8 @@ use ir_tree::module::{Bin, Body, Conv};
 use ir_tree::names::Names;
 use std::alloc::Global;
 
-/// The operation whose flags `nuw` and `nsw` and operands are at `at`, and the number of the token
-/// behind them.
+/// Reads the operation whose flags `nuw` and `nsw` and operands are at token `at`. Returns it and the number
+/// of the next token.
 pub fn wrapping_at(
     alloc: Global,
     text: &[u8],
@@ -43,7 +43,8 @@ pub fn wrapping_at(
     Ok((Body::Binary(operation, flags, ty, left, right), end))
 }
 
-/// The operation whose flag `exact` and operands are at `at`, and the number of the token behind them.
+/// Reads the operation whose flag `exact` and operands are at token `at`. Returns it and the number of the
+/// next token.
 pub fn exact_binary_at(
     alloc: Global,
     text: &[u8],
@@ -67,7 +68,7 @@ pub fn exact_binary_at(
     Ok((Body::Binary(operation, flags, ty, left, right), end))
 }
 
-/// The operation whose operands are at `at`, and the number of the token behind them.
+/// Reads the operation whose operands are at token `at`. Returns it and the number of the next token.
 pub fn plain_at(
     alloc: Global,
     text: &[u8],
@@ -90,7 +91,7 @@ pub fn plain_at(
     Ok((Body::Binary(operation, NO_FLAGS, ty, left, right), end))
 }
 
-/// What follows `icmp`, at `at`, and the number of the token behind it.
+/// Reads what follows `icmp`, at token `at`. Returns it and the number of the next token.
 pub fn icmp_at(
     alloc: Global,
     text: &[u8],
@@ -113,7 +114,7 @@ pub fn icmp_at(
     Ok((Body::Icmp(predicate, ty, left, right), end))
 }
 
-/// What follows `select`, at `at`, and the number of the token behind it.
+/// Reads what follows `select`, at token `at`. Returns it and the number of the next token.
 pub fn select_at(
     alloc: Global,
     text: &[u8],
@@ -136,7 +137,7 @@ pub fn select_at(
     Ok((Body::Select(condition, yes, no), end))
 }
 
-/// What follows `zext` or `sext`, at `at`, and the number of the token behind it.
+/// Reads what follows `zext` or `sext`, at token `at`. Returns it and the number of the next token.
 pub fn extend_at(
     alloc: Global,
     text: &[u8],
@@ -159,7 +160,8 @@ pub fn extend_at(
     Ok((Body::Convert(conversion, ty, val, to), end))
 }
 
-/// What follows `trunc`, at `at`, and the number of the token behind it. Its flags are dropped.
+/// Reads what follows `trunc`, at token `at`. Returns it and the number of the next token. Its flags are
+/// dropped.
 pub fn trunc_at(
     alloc: Global,
     text: &[u8],
@@ -182,7 +184,7 @@ pub fn trunc_at(
     Ok((Body::Convert(Conv::Trunc, ty, val, to), end))
 }
 
-/// What follows `freeze`, at `at`, and the number of the token behind it.
+/// Reads what follows `freeze`, at token `at`. Returns it and the number of the next token.
 pub fn freeze_at(
     alloc: Global,
     text: &[u8],

@@ -52,7 +52,7 @@ pub const NO_FLAGS: Flags = Flags {
     exact: false,
 };
 
-/// The head that a word is.
+/// Returns the head that a word is.
 fn head_of(word: Keyword) -> Option<Head>
     ensures { option_map head_from result ≡ inst_head (KeywordSymbol word) }
 {
@@ -85,14 +85,14 @@ fn head_of(word: Keyword) -> Option<Head>
     })
 }
 
-/// Whether an instruction begins with a word, behind its result if it has one; `phi` begins none.
+/// Tells whether an instruction begins with a word, after its result if it has one; `phi` begins none.
 pub fn is_inst_word(word: Keyword) -> bool
     ensures { result ≡ heads inst_head (KeywordSymbol word) }
 {
     head_of(word).is_some()
 }
 
-/// The head of the instruction at `at`, and the number of the next token.
+/// Reads the head of the instruction at token `at`. Returns it and the number of the next token.
 pub fn head_at(text: &[u8], toks: &[Token], at: usize) -> Result<(Head, usize), Stop>
     requires { at ≤ length (symbols_of text.now toks.now) }
     ensures reads { Gives head_from (symbols_of text.now toks.now) result
@@ -108,7 +108,7 @@ pub fn head_at(text: &[u8], toks: &[Token], at: usize) -> Result<(Head, usize), 
     }
 }
 
-/// The number of the token behind `phi`, which has to be at `at`.
+/// Returns the number of the token after `phi`, which has to be at `at`.
 pub fn phi_word_at(text: &[u8], toks: &[Token], at: usize) -> Result<usize, Stop>
     requires { at ≤ length (symbols_of text.now toks.now) }
     ensures steps { Steps (symbols_of text.now toks.now) result
@@ -121,7 +121,7 @@ pub fn phi_word_at(text: &[u8], toks: &[Token], at: usize) -> Result<usize, Stop
     }
 }
 
-/// The number of the token behind `to`, which has to be at `at`.
+/// Returns the number of the token after `to`, which has to be at `at`.
 pub fn into_at(text: &[u8], toks: &[Token], at: usize) -> Result<usize, Stop>
     requires { at ≤ length (symbols_of text.now toks.now) }
     ensures steps { Steps (symbols_of text.now toks.now) result
@@ -134,7 +134,7 @@ pub fn into_at(text: &[u8], toks: &[Token], at: usize) -> Result<usize, Stop>
     }
 }
 
-/// What `icmp` asks with a word.
+/// Returns what `icmp` asks with a word.
 fn predicate_of(word: Keyword) -> Option<Pred>
     ensures { result ≡ asked (KeywordSymbol word) }
 {
@@ -153,7 +153,7 @@ fn predicate_of(word: Keyword) -> Option<Pred>
     })
 }
 
-/// What `icmp` asks, at `at`, and the number of the next token.
+/// Reads what `icmp` asks, at token `at`. Returns it and the number of the next token.
 pub fn predicate_at(text: &[u8], toks: &[Token], at: usize) -> Result<(Pred, usize), Stop>
     requires { at ≤ length (symbols_of text.now toks.now) }
     ensures reads { Gives (λ p. p) (symbols_of text.now toks.now) result
@@ -169,7 +169,7 @@ pub fn predicate_at(text: &[u8], toks: &[Token], at: usize) -> Result<(Pred, usi
     }
 }
 
-/// The flag of an operation at `at`: whether it is `nuw`, and not `nsw`.
+/// Reads the flag of an operation at token `at`: whether it is `nuw`, and not `nsw`.
 fn wrap_flag_at(text: &[u8], toks: &[Token], at: usize) -> Option<bool>
     requires { at ≤ length (symbols_of text.now toks.now) }
     ensures { MatchOption result (opens (heads wrap_flag) (drop at (symbols_of text.now toks.now)) ≡ false)
@@ -185,7 +185,7 @@ fn wrap_flag_at(text: &[u8], toks: &[Token], at: usize) -> Option<bool>
     }
 }
 
-/// The flags, and `nuw` or else `nsw`.
+/// Returns the flags, and `nuw` or else `nsw`.
 fn flags_with(flags: Flags, nuw: bool) -> Flags
     ensures { result ≡ with_flag flags nuw }
 {
@@ -196,8 +196,8 @@ fn flags_with(flags: Flags, nuw: bool) -> Flags
     }
 }
 
-/// The flags `nuw` and `nsw` from `at` on, and the number of the token behind them. At most `budget`
-/// flags are read.
+/// Reads the flags `nuw` and `nsw` starting at token `at`. Returns it and the number of the next token. At
+/// most `budget` flags are read.
 pub fn wrap_flags_at(text: &[u8], toks: &[Token], at: usize, budget: usize) -> (Flags, usize)
     requires { at ≤ length (symbols_of text.now toks.now) }
     ensures reads { run_wrap_flags budget (drop at (symbols_of text.now toks.now))
@@ -217,7 +217,7 @@ pub fn wrap_flags_at(text: &[u8], toks: &[Token], at: usize, budget: usize) -> (
     (flags, next)
 }
 
-/// The flag `exact`, if it is at `at`, and the number of the token behind it.
+/// Reads the flag `exact`, if it is at token `at`. Returns it and the number of the next token.
 pub fn exact_at(text: &[u8], toks: &[Token], at: usize) -> (Flags, usize)
     requires { at ≤ length (symbols_of text.now toks.now) }
     ensures reads { run_exact_flag (drop at (symbols_of text.now toks.now))

@@ -20,7 +20,8 @@ use ir_tree::module::Body;
 use ir_tree::names::Names;
 use std::alloc::Global;
 
-/// The instruction at `at`, and the number of the token behind it. At most `budget` tokens are read.
+/// Reads the instruction at token `at`. Returns it and the number of the next token. At most `budget` tokens
+/// are read.
 pub fn inst_at(
     alloc: Global,
     text: &[u8],
@@ -41,7 +42,7 @@ pub fn inst_at(
     rest_at(alloc, text, toks, next, budget, head, names)
 }
 
-/// What follows the head of an instruction, from `at` on.
+/// Reads what follows the head of an instruction, starting at token `at`.
 fn rest_at(
     alloc: Global,
     text: &[u8],

@@ -22,8 +22,8 @@ use ir_tree::names::Names;
 use ir_tree::types::Const;
 use std::alloc::Global;
 
-/// How many there are, behind a comma and a type, where a comma is at `at`, and one where it isn't; and
-/// the number of the token behind that.
+/// Returns how many there are, after a comma and a type, where a comma is at `at`, and one where it isn't;
+/// and the number of the token after that.
 fn count_at(
     alloc: Global,
     text: &[u8],
@@ -46,7 +46,7 @@ fn count_at(
     integer_at(text, toks, next)
 }
 
-/// What follows `alloca`, at `at`, and the number of the token behind it.
+/// Reads what follows `alloca`, at token `at`. Returns it and the number of the next token.
 pub fn alloca_at(
     alloc: Global,
     text: &[u8],
@@ -68,7 +68,7 @@ pub fn alloca_at(
     Ok((Body::Alloca(ty, count), end))
 }
 
-/// What follows `load`, at `at`, and the number of the token behind it.
+/// Reads what follows `load`, at token `at`. Returns it and the number of the next token.
 pub fn load_at(
     alloc: Global,
     text: &[u8],
@@ -90,7 +90,7 @@ pub fn load_at(
     Ok((Body::Load(ty, address), end))
 }
 
-/// What follows `store`, at `at`, and the number of the token behind it.
+/// Reads what follows `store`, at token `at`. Returns it and the number of the next token.
 pub fn store_at(
     alloc: Global,
     text: &[u8],
@@ -112,7 +112,7 @@ pub fn store_at(
     Ok((Body::Store(value, address), end))
 }
 
-/// What follows `getelementptr`, at `at`, and the number of the token behind it.
+/// Reads what follows `getelementptr`, at token `at`. Returns it and the number of the next token.
 pub fn element_at(
     alloc: Global,
     text: &[u8],
@@ -136,7 +136,7 @@ pub fn element_at(
     Ok((Body::Gep(inbounds, ty, base, indices), end))
 }
 
-/// The types and values from `at` on, each behind a comma.
+/// Reads the types and values starting at token `at`, each after a comma.
 fn indices_at(
     alloc: Global,
     text: &[u8],
@@ -166,7 +166,7 @@ fn indices_at(
     Ok((indices, next))
 }
 
-/// What follows `call`, at `at`, and the number of the token behind it.
+/// Reads what follows `call`, at token `at`. Returns it and the number of the next token.
 pub fn call_at(
     alloc: Global,
     text: &[u8],
@@ -193,7 +193,7 @@ pub fn call_at(
     ))
 }
 
-/// The types and values from `at` on, if any, up to a `)`.
+/// Reads the types and values starting at token `at`, if any, up to a `)`.
 fn arguments_at(
     alloc: Global,
     text: &[u8],

@@ -41,7 +41,7 @@ pub struct Conversion {
     pub to: Ty,
 }
 
-/// The type and the two values at `at`, and the number of the token behind them.
+/// Reads the type and the two values at token `at`. Returns it and the number of the next token.
 pub fn two_values_at(
     alloc: Global,
     text: &[u8],
@@ -65,8 +65,8 @@ pub fn two_values_at(
     Ok((TwoValues { ty, left, right }, end))
 }
 
-/// The value at `at` with the type before it and the type behind `to`, and the number of the token
-/// behind them.
+/// Reads the value at token `at` with the type before it and the type after `to`. Returns it and the number
+/// of the next token.
 pub fn conversion_at(
     alloc: Global,
     text: &[u8],

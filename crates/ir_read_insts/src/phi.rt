@@ -19,7 +19,8 @@ use ir_tree::module::{Body, PhiIn};
 use ir_tree::names::Names;
 use std::alloc::Global;
 
-/// The phi at `at`, and the number of the token behind it. At most `budget` tokens are read.
+/// Reads the phi at token `at`. Returns it and the number of the next token. At most `budget` tokens are
+/// read.
 pub fn phi_at(
     alloc: Global,
     text: &[u8],
@@ -42,7 +43,7 @@ pub fn phi_at(
     Ok((Body::Phi(ty, inputs), end))
 }
 
-/// The inputs of a phi from `at` on, of which there is one at least.
+/// Reads the inputs of a phi starting at token `at`, of which there is one at least.
 fn inputs_at(
     alloc: Global,
     text: &[u8],
@@ -74,7 +75,7 @@ fn inputs_at(
     Ok((inputs, next))
 }
 
-/// The input of a phi at `at`, and the number of the token behind it.
+/// Reads the input of a phi at token `at`. Returns it and the number of the next token.
 fn input_at(
     alloc: Global,
     text: &[u8],

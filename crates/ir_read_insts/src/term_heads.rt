@@ -25,7 +25,7 @@ pub enum Head {
     Unreachable,
 }
 
-/// The head of the terminator at `at`, and the number of the next token.
+/// Reads the head of the terminator at token `at`. Returns it and the number of the next token.
 pub fn head_at(text: &[u8], toks: &[Token], at: usize) -> Result<(Head, usize), Stop>
     requires { at ≤ length (symbols_of text.now toks.now) }
     ensures reads { Gives head_from (symbols_of text.now toks.now) result
@@ -41,7 +41,7 @@ pub fn head_at(text: &[u8], toks: &[Token], at: usize) -> Result<(Head, usize), 
     }
 }
 
-/// The number of the token behind `void`, where it is at `at`.
+/// Returns the number of the token after `void`, where it is at `at`.
 pub fn after_void(text: &[u8], toks: &[Token], at: usize) -> Option<usize>
     requires { at ≤ length (symbols_of text.now toks.now) }
     ensures tries { Tries void_word (symbols_of text.now toks.now) result
@@ -54,7 +54,7 @@ pub fn after_void(text: &[u8], toks: &[Token], at: usize) -> Option<usize>
     }
 }
 
-/// Whether a value begins at `at`.
+/// Tells whether a value begins at `at`.
 pub fn begins_value(text: &[u8], toks: &[Token], at: usize) -> bool
     requires { at ≤ length (symbols_of text.now toks.now) }
     ensures { result ≡ opens begins_val (drop at (symbols_of text.now toks.now)) }

@@ -24,7 +24,8 @@ use ir_tree::names::Names;
 use ir_tree::types::Ty;
 use std::alloc::Global;
 
-/// The terminator at `at`, and the number of the token behind it. At most `budget` tokens are read.
+/// Reads the terminator at token `at`. Returns it and the number of the next token. At most `budget` tokens
+/// are read.
 pub fn term_at(
     alloc: Global,
     text: &[u8],
@@ -45,7 +46,7 @@ pub fn term_at(
     rest_at(alloc, text, toks, next, budget, head, names)
 }
 
-/// What follows the first word of a terminator, from `at` on.
+/// Reads what follows the first word of a terminator, starting at token `at`.
 fn rest_at(
     alloc: Global,
     text: &[u8],
@@ -71,7 +72,7 @@ fn rest_at(
     }
 }
 
-/// What follows `br`, from `at` on.
+/// Reads what follows `br`, starting at token `at`.
 #[tactic(auto, using(grammar::proofs::Loops::opens_one))]
 fn branch_at(
     alloc: Global,
@@ -98,7 +99,7 @@ fn branch_at(
     }
 }
 
-/// The condition of a `br` from `at` on, and its two blocks.
+/// Reads the condition of a `br` starting at token `at`, and its two blocks.
 fn two_ways_at(
     alloc: Global,
     text: &[u8],
@@ -121,7 +122,7 @@ fn two_ways_at(
     Ok((Body::Branch(condition, yes, no), end))
 }
 
-/// What follows `switch`, from `at` on.
+/// Reads what follows `switch`, starting at token `at`.
 fn switch_at(
     alloc: Global,
     text: &[u8],
@@ -145,7 +146,7 @@ fn switch_at(
     Ok((Body::Switch(value, other, cases), end))
 }
 
-/// The cases of a `switch` from `at` on, up to a `]`.
+/// Reads the cases of a `switch` starting at token `at`, up to a `]`.
 fn cases_at(
     alloc: Global,
     text: &[u8],
@@ -175,7 +176,7 @@ fn cases_at(
     Err(Stop::WrongSymbol(next))
 }
 
-/// The case of a `switch` at `at`.
+/// Reads the case of a `switch` at token `at`.
 fn case_at(
     alloc: Global,
     text: &[u8],
@@ -198,7 +199,7 @@ fn case_at(
     Ok((Case { ty, value, to }, end))
 }
 
-/// What follows `ret`, from `at` on.
+/// Reads what follows `ret`, starting at token `at`.
 #[tactic(auto, using(grammar::proofs::Loops::opens_one))]
 fn return_at(
     alloc: Global,
@@ -225,7 +226,7 @@ fn return_at(
     }
 }
 
-/// What follows `ret void`, from `at` on: a value may, since `void` is a type.
+/// Reads what follows `ret void`, starting at token `at`: a value may, since `void` is a type.
 fn void_at(
     alloc: Global,
     text: &[u8],

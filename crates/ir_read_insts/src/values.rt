@@ -19,7 +19,7 @@ use ir_tree::module::{TyVal, Val};
 use ir_tree::names::{NameId, Names};
 use std::alloc::Global;
 
-/// The Local at `at`, if one is there.
+/// Reads the Local at token `at`, if one is there.
 fn local_token_at(text: &[u8], toks: &[Token], at: usize) -> Option<Token>
     requires { at ≤ length (symbols_of text.now toks.now) }
     ensures { MatchOption result (opens (heads local_name) (drop at (symbols_of text.now toks.now)) ≡ false)
@@ -34,7 +34,7 @@ fn local_token_at(text: &[u8], toks: &[Token], at: usize) -> Option<Token>
     }
 }
 
-/// Whether there is a Local at `at`.
+/// Tells whether there is a Local at `at`.
 pub fn begins_local(text: &[u8], toks: &[Token], at: usize) -> bool
     requires { at ≤ length (symbols_of text.now toks.now) }
     ensures { result ≡ opens (heads local_name) (drop at (symbols_of text.now toks.now)) }
@@ -45,7 +45,7 @@ pub fn begins_local(text: &[u8], toks: &[Token], at: usize) -> bool
     }
 }
 
-/// The integer at `at`, and the number of the token behind it.
+/// Reads the integer at token `at`. Returns it and the number of the next token.
 pub fn integer_at(text: &[u8], toks: &[Token], at: usize) -> Result<(i128, usize), Stop>
     requires { at ≤ length (symbols_of text.now toks.now) }
     ensures reads { Gives (λ z. z) (symbols_of text.now toks.now) result
@@ -58,7 +58,7 @@ pub fn integer_at(text: &[u8], toks: &[Token], at: usize) -> Result<(i128, usize
     }
 }
 
-/// The number of the token behind `label`, where it is at `at`.
+/// Returns the number of the token after `label`, where it is at `at`.
 pub fn after_label(text: &[u8], toks: &[Token], at: usize) -> Option<usize>
     requires { at ≤ length (symbols_of text.now toks.now) }
     ensures tries { Tries label (symbols_of text.now toks.now) result
@@ -71,7 +71,7 @@ pub fn after_label(text: &[u8], toks: &[Token], at: usize) -> Option<usize>
     }
 }
 
-/// The number of the token behind `label`, which has to be at `at`.
+/// Returns the number of the token after `label`, which has to be at `at`.
 fn label_at(text: &[u8], toks: &[Token], at: usize) -> Result<usize, Stop>
     requires { at ≤ length (symbols_of text.now toks.now) }
     ensures steps { Steps (symbols_of text.now toks.now) result
@@ -81,7 +81,7 @@ fn label_at(text: &[u8], toks: &[Token], at: usize) -> Result<usize, Stop>
     after_label(text, toks, at).ok_or(Stop::WrongSymbol(at))
 }
 
-/// The name of the Local at `at`, and the number of the token behind it.
+/// Reads the name of the Local at token `at`. Returns it and the number of the next token.
 pub fn local_at(
     alloc: Global,
     text: &[u8],
@@ -103,7 +103,7 @@ pub fn local_at(
     }
 }
 
-/// The name of the Global at `at`, and the number of the token behind it.
+/// Reads the name of the Global at token `at`. Returns it and the number of the next token.
 pub fn global_at(
     alloc: Global,
     text: &[u8],
@@ -125,7 +125,8 @@ pub fn global_at(
     }
 }
 
-/// The value at `at`, and the number of the token behind it. At most `budget` tokens are read.
+/// Reads the value at token `at`. Returns it and the number of the next token. At most `budget` tokens are
+/// read.
 pub fn val_at(
     alloc: Global,
     text: &[u8],
@@ -154,7 +155,7 @@ pub fn val_at(
     }
 }
 
-/// The type and the value at `at`, and the number of the token behind them.
+/// Reads the type and the value at token `at`. Returns it and the number of the next token.
 pub fn ty_val_at(
     alloc: Global,
     text: &[u8],
@@ -176,7 +177,7 @@ pub fn ty_val_at(
     Ok((TyVal { ty, val }, end))
 }
 
-/// The type and the value behind the comma at `at`, and the number of the token behind them.
+/// Reads the type and the value after the comma at token `at`. Returns it and the number of the next token.
 pub fn more_ty_val_at(
     alloc: Global,
     text: &[u8],
@@ -197,7 +198,7 @@ pub fn more_ty_val_at(
     ty_val_at(alloc, text, toks, after_comma, budget, names)
 }
 
-/// The name of the block behind `label` at `at`, and the number of the token behind it.
+/// Reads the name of the block after `label` at token `at`. Returns it and the number of the next token.
 pub fn target_at(
     alloc: Global,
     text: &[u8],
@@ -217,7 +218,8 @@ pub fn target_at(
     local_at(alloc, text, toks, next, names)
 }
 
-/// The name of the block behind a comma and `label` at `at`, and the number of the token behind it.
+/// Reads the name of the block after a comma and `label` at token `at`. Returns it and the number of the next
+/// token.
 pub fn more_target_at(
     alloc: Global,
     text: &[u8],

@@ -186,7 +186,7 @@ insts_end {text = text} {toks = toks} {n = n} {names = names} {lines = lines} {n
     sym (g.same ∙ ap (λ z. lines_behind (lines_shape names lines) (rest_by z begins_inst (run_inst_line n) (run_last_line n) (drop next (symbols_of text toks)))) e
     ∙ ap (lines_behind (lines_shape names lines)) (rest_end begins_inst (run_inst_line n) (run_last_line n) (drop next (symbols_of text toks))))
 
--- one instruction behind lines
+-- one instruction after lines
 pub inst_behind : (text : List ℕ) (toks : List Token) (n at next : ℕ) {old new : List (List ℕ)} → Grows old new → (lines more : Lines) (x : Inst)
     → at ≤ length (symbols_of text toks) → lines_known (length old) lines ≡ true → inst_known (length new) x ≡ true → length new + at ≤ length old + next
     → run_inst_line n (drop at (symbols_of text toks)) ≡ Got (inst_shape new x) (drop next (symbols_of text toks)) → next ≤ length (symbols_of text toks)
@@ -195,7 +195,7 @@ pub inst_behind : (text : List ℕ) (toks : List Token) (n at next : ℕ) {old n
 inst_behind text toks n at next {old = old} {new = new} g lines more x h known fits count read le insts spots =
     so_far_more (so_far_start text toks old lines at h known) g x fits next count le (inst_between n text toks at next (inst_shape new x) h le read) more insts spots
 
--- the first line behind the phis is an instruction, and others follow
+-- the first line after the phis is an instruction, and others follow
 pub others_go_on : {old new : List (List ℕ)} → Grows old new → (n : ℕ) (ts q : List Symbol) (lines more : Lines) (x : Inst) → lines_known (length old) lines ≡ true
     → opens begins_inst ts ≡ true → run_inst_line n ts ≡ Got (inst_shape new x) q → more.insts.items ≡ lines.insts.items ++ x ∷ []
     → lines_behind (lines_shape new more) (run_after_phis n q) ≡ lines_behind (lines_shape old lines) (run_others n ts)

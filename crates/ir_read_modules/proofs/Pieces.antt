@@ -1,4 +1,4 @@
--- The tokens of lines: pieces one behind another, each of which spells a line and begins at its spot.
+-- The tokens of lines: pieces one after another, each of which spells a line and begins at its spot.
 use Rattle.std.proofs.Common.{◌≡◌, ℕ, suc, ◌+◌, ◌-◌, ◌<◌, ◌≤◌, Bool, true, List, [], ◌∷◌, ◌++◌, length, take, drop, refl, sym, ◌∙◌, ap, subst, arith, append_assoc, length-append, length-drop}
 use Rattle.std.specs.List.{slice_range}
 use Rattle.std.specs.List as lists
@@ -12,7 +12,7 @@ use Rattle.ir_lex.specs.declared.token.Token.{Token}
 use Rattle.ir_read_modules.specs.Spots.{start_of, InPieces}
 use Rattle.ir_read_modules.proofs.Sound.{Sound, front_read}
 
--- one piece more, behind the others
+-- one piece more, after the others
 pub pieces_more : {V K : Type 0} (R : List Token → V → K → Type 0) (vs : List V) (ks : List K) (toks p : List Token) (v : V) (k : K)
     → InPieces R toks vs ks → R p v k → InPieces R (toks ++ p) (vs ++ v ∷ []) (ks ++ k ∷ [])
 pieces_more R [] [] toks p v k h g = (p, [], ap (λ z. z ++ p) h ∙ sym (append-nil p), g, refl)

@@ -1,4 +1,5 @@
--- A Label and the lines behind it, read one after the other: the tokens of the one, and then those of the others.
+-- A Label and the lines after it, read one after the other: the tokens of the one, and then those of the
+-- others.
 use Rattle.std.proofs.Common.{◌≡◌, ℕ, ◌+◌, ◌≤◌, true, List, length, map, drop, Option, Some, subst, arith, Vec}
 use Rattle.std.specs.Prelude.{option_map}
 use Rattle.std.specs.List.{slice_range}
@@ -20,7 +21,7 @@ use Rattle.ir_read_modules.proofs.LineParts.{result_kept}
 use Rattle.ir_read_modules.proofs.Sound.{sound_one, sound_maybe}
 use Rattle.ir_read_modules.proofs.Pieces.{slices_joined, slice_spelled}
 
--- where the lines of a block begin, behind what was read of its Label
+-- where the lines of a block begin, after what was read of its Label
 spots_behind : (text : List ℕ) (toks : List Token) (at first end : ℕ) (label : Option (List ℕ)) (vs : List InstShape) (spots : List ℕ) → at ≤ first → first ≤ end
     → maybe (one label_name) (symbols_of text (slice_range toks at first)) label → InPieces (IsLineAt text) (slice_range toks first end) vs spots
     → IsEntryAt text (slice_range toks at end) (label, vs) spots

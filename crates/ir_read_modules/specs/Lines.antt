@@ -1,4 +1,4 @@
--- The readers of single lines. Whether a line is a phi is told by the word behind its result.
+-- The readers of single lines. Whether a line is a phi is told by the word after its result.
 use Rattle.std.specs.Prelude.{ℕ, ◌≤◌, Bool, false, List, ◌++◌, Option}
 use Rattle.std.specs.List.{slice_range}
 use Rattle.grammar.specs.Language.{cons}
@@ -26,7 +26,7 @@ is_phi_line ts = told_phi (run_maybe_result ts)
 abbrev pub run_phi_line : ℕ → Reader Symbol InstShape
 run_phi_line n = run_map line_of (run_seq run_maybe_result (run_phi n))
 
--- the lines behind the phis: an instruction and the lines after it, or the terminator
+-- the lines after the phis: an instruction and the lines after it, or the terminator
 abbrev pub run_others : ℕ → Reader Symbol (List InstShape)
 run_others n = run_or begins_inst (run_map cons (run_seq (run_inst_line n) (run_after_phis n))) (run_last_line n)
 

@@ -27,7 +27,7 @@ any_line = or_else phi_line (or_else inst_line (map_to (λ body. line_of (None, 
 abbrev pub IsLineAt : List ℕ → List Token → InstShape → ℕ → Type 0
 IsLineAt text toks v spot = any_line (symbols_of text toks) v × (spot ≡ start_of toks)
 
--- behind a Label, if there is one, the tokens are the first block's lines, which begin at the spots
+-- after a Label, if there is one, the tokens are the first block's lines, which begin at the spots
 abbrev pub IsEntryAt : List ℕ → List Token → FirstBlock → List ℕ → Type 0
 IsEntryAt text toks v spots =
     (p : List Token) × (q : List Token) × (toks ≡ p ++ q) × maybe (one label_name) (symbols_of text p) v.0 × InPieces (IsLineAt text) q v.1 spots

@@ -12,7 +12,7 @@ use ir_cursor::{Meaning, after_mark, meaning_at};
 use ir_lex::{Keyword, Token};
 use ir_read_insts::is_inst_word;
 
-/// The byte offset of the token at `at`, and 0 behind the last one.
+/// Returns the byte offset of the token numbered `at`, and 0 after the last one.
 pub fn start_at(toks: &[Token], at: usize) -> usize
     ensures { result ≡ start_of (drop at toks.now) }
 {
@@ -22,7 +22,7 @@ pub fn start_at(toks: &[Token], at: usize) -> usize
     }
 }
 
-/// Whether there is the word `phi` at `at`.
+/// Tells whether there is the word `phi` at `at`.
 fn is_phi(text: &[u8], toks: &[Token], at: usize) -> bool
     requires { at ≤ length (symbols_of text.now toks.now) }
     ensures { result ≡ opens (heads phi_word) (drop at (symbols_of text.now toks.now)) }
@@ -33,7 +33,7 @@ fn is_phi(text: &[u8], toks: &[Token], at: usize) -> bool
     }
 }
 
-/// Whether the line at `at` is a phi.
+/// Tells whether the line at `at` is a phi.
 #[tactic(auto, using(crate::proofs::MarksAhead::not_one), unfolding(crate::specs::Lines::is_phi_line))]
 pub fn begins_phi(text: &[u8], toks: &[Token], at: usize) -> bool
     requires { at ≤ length (symbols_of text.now toks.now) }
@@ -49,7 +49,7 @@ pub fn begins_phi(text: &[u8], toks: &[Token], at: usize) -> bool
     }
 }
 
-/// Whether an instruction begins at `at`, with its result or with its word.
+/// Tells whether an instruction begins at `at`, with its result or with its word.
 pub fn begins_inst(text: &[u8], toks: &[Token], at: usize) -> bool
     requires { at ≤ length (symbols_of text.now toks.now) }
     ensures { result ≡ opens begins_inst (drop at (symbols_of text.now toks.now)) }

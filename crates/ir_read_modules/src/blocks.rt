@@ -30,7 +30,7 @@ pub struct Lines {
 impl Lines {
     ghost use Rattle.std.specs.Prelude.{[], ◌∷◌, ◌++◌};
 
-    /// One line more, behind the others.
+    /// Appends a line after the others.
     pub(crate) fn push(&mut self, line: Inst, spot: usize) -> Result<(), AllocError>
         ensures insts { IfOk result (λ _. self.new.insts.items ≡ self.old.insts.items ++ line ∷ []) }
         ensures spots { IfOk result (λ _. self.new.spots.items ≡ self.old.spots.items ++ spot ∷ []) }
@@ -59,7 +59,8 @@ pub struct EntryBlock {
     pub lines: Lines,
 }
 
-/// The lines of a block from `at` on, and the number of the token behind them. At most `budget` tokens are read.
+/// Reads the lines of a block starting at token `at`. Returns it and the number of the next token. At most
+/// `budget` tokens are read.
 pub fn lines_at(
     alloc: Global,
     text: &[u8],
@@ -94,7 +95,8 @@ pub fn lines_at(
     Err(Stop::WrongSymbol(next))
 }
 
-/// The block at `at`, which has a label, and the number of the token behind it. At most `budget` tokens are read.
+/// Reads the block at token `at`, which has a label. Returns it and the number of the next token. At most
+/// `budget` tokens are read.
 pub fn block_at(
     alloc: Global,
     text: &[u8],
@@ -127,7 +129,8 @@ pub fn block_at(
     ))
 }
 
-/// The first block of a function at `at`, and the number of the token behind it. At most `budget` tokens are read.
+/// Reads the first block of a function at token `at`. Returns it and the number of the next token. At most
+/// `budget` tokens are read.
 pub fn entry_at(
     alloc: Global,
     text: &[u8],

@@ -10,7 +10,7 @@ use grammar::Stop;
 use ir_cursor::{Meaning, meaning_at};
 use ir_lex::{Keyword, Token};
 
-/// The number of the token behind `type`, which has to be at `at`.
+/// Returns the number of the token after `type`, which has to be at `at`.
 pub fn after_type_word(text: &[u8], toks: &[Token], at: usize) -> Result<usize, Stop>
     requires { at ≤ length (symbols_of text.now toks.now) }
     ensures steps { Steps (symbols_of text.now toks.now) result
@@ -23,7 +23,7 @@ pub fn after_type_word(text: &[u8], toks: &[Token], at: usize) -> Result<usize, 
     }
 }
 
-/// Whether a global is constant, by the word at `at`, and the number of the next token.
+/// Tells whether a global is constant, by the word at `at`, and the number of the next token.
 pub fn constancy_at(text: &[u8], toks: &[Token], at: usize) -> Result<(bool, usize), Stop>
     requires { at ≤ length (symbols_of text.now toks.now) }
     ensures reads { Gives (λ constant. constant) (symbols_of text.now toks.now) result
@@ -37,7 +37,7 @@ pub fn constancy_at(text: &[u8], toks: &[Token], at: usize) -> Result<(bool, usi
     }
 }
 
-/// The number of the token behind `declare`, which has to be at `at`.
+/// Returns the number of the token after `declare`, which has to be at `at`.
 pub fn after_declare(text: &[u8], toks: &[Token], at: usize) -> Result<usize, Stop>
     requires { at ≤ length (symbols_of text.now toks.now) }
     ensures steps { Steps (symbols_of text.now toks.now) result

@@ -31,7 +31,8 @@ pub struct Signature {
     pub params: Vec<Param>,
 }
 
-/// The signature of a function at `at`, and the number of the token behind it. At most `budget` tokens are read.
+/// Reads the signature of a function at token `at`. Returns it and the number of the next token. At most
+/// `budget` tokens are read.
 pub fn signature_at(
     alloc: Global,
     text: &[u8],
@@ -54,7 +55,7 @@ pub fn signature_at(
     Ok((Signature { ret, name, params }, end))
 }
 
-/// The named type at `at`, and the number of the token behind it.
+/// Reads the named type at token `at`. Returns it and the number of the next token.
 pub fn type_line_at(
     alloc: Global,
     text: &[u8],
@@ -78,7 +79,7 @@ pub fn type_line_at(
     Ok((NamedTy { name, ty }, end))
 }
 
-/// The global at `at`, and the number of the token behind it.
+/// Reads the global at token `at`. Returns it and the number of the next token.
 pub fn global_line_at(
     alloc: Global,
     text: &[u8],
@@ -111,7 +112,8 @@ pub fn global_line_at(
     ))
 }
 
-/// The declared function at `at`, and the number of the token behind it. The names of its parameters are dropped.
+/// Reads the declared function at token `at`. Returns it and the number of the next token. The names of its
+/// parameters are dropped.
 pub fn declare_line_at(
     alloc: Global,
     text: &[u8],

@@ -16,7 +16,7 @@ use ir_read_consts::name_number;
 use ir_tree::names::{NameId, Names};
 use std::alloc::Global;
 
-/// Whether there is a Label at `at`.
+/// Tells whether there is a Label at `at`.
 fn is_label(text: &[u8], toks: &[Token], at: usize) -> bool
     requires { at ≤ length (symbols_of text.now toks.now) }
     ensures { result ≡ opens (heads label_name) (drop at (symbols_of text.now toks.now)) }
@@ -27,7 +27,7 @@ fn is_label(text: &[u8], toks: &[Token], at: usize) -> bool
     }
 }
 
-/// The name of the Label at `at`, and the number of the token behind it.
+/// Reads the name of the Label at token `at`. Returns it and the number of the next token.
 pub fn label_at(
     alloc: Global,
     text: &[u8],
@@ -52,7 +52,7 @@ pub fn label_at(
     }
 }
 
-/// The name of the Label at `at`, if there is one, and the number of the token behind it.
+/// Reads the name of the Label at token `at`, if there is one. Returns it and the number of the next token.
 pub fn maybe_label_at(
     alloc: Global,
     text: &[u8],

@@ -1,4 +1,4 @@
-//! The lines behind the phis of a block.
+//! The lines after the phis of a block.
 
 ghost use Rattle.std.specs.Prelude.{◌≡◌, ◌+◌, ◌^◌, ◌<◌, ◌≤◌, ℕ, length, drop, true, IfOk};
 ghost use Rattle.grammar.specs.Code.{Gives};
@@ -18,7 +18,7 @@ use ir_tree::module::Inst;
 use ir_tree::names::Names;
 use std::alloc::Global;
 
-/// The lines so far and the terminator at `at`, and the number of the token behind it.
+/// Reads the lines so far and the terminator at token `at`. Returns it and the number of the next token.
 fn last_at(
     alloc: Global,
     text: &[u8],
@@ -45,8 +45,8 @@ fn last_at(
     Ok((lines, next))
 }
 
-/// The lines so far, the instructions from `at` on and the terminator behind them, and the number of the token
-/// behind it. At most `budget` instructions are read.
+/// Reads the lines so far, the instructions starting at token `at` and the terminator after them. Returns it
+/// and the number of the next token. At most `budget` instructions are read.
 fn more_at(
     alloc: Global,
     text: &[u8],
@@ -79,7 +79,8 @@ fn more_at(
     last_at(alloc, text, toks, next, budget, lines, names)
 }
 
-/// The lines so far and those from `at` on, of which none is a phi, and the number of the token behind them.
+/// Reads the lines so far and those starting at token `at`, of which none is a phi. Returns it and the number
+/// of the next token.
 pub fn others_at(
     alloc: Global,
     text: &[u8],

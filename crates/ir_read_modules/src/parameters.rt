@@ -22,7 +22,7 @@ use ir_tree::names::{NameId, Names};
 use ir_tree::types::Ty;
 use std::alloc::{AllocError, Global};
 
-/// The parameters between brackets from `at` on, and the number of the token behind them.
+/// Reads the parameters between brackets starting at token `at`. Returns it and the number of the next token.
 pub fn parameters_at(
     alloc: Global,
     text: &[u8],
@@ -43,7 +43,7 @@ pub fn parameters_at(
     listed_at(alloc, text, toks, next, budget, names)
 }
 
-/// The parameters from `at` on, if any, up to a `)`.
+/// Reads the parameters starting at token `at`, if any, up to a `)`.
 fn listed_at(
     alloc: Global,
     text: &[u8],
@@ -76,7 +76,7 @@ fn listed_at(
     Err(Stop::WrongSymbol(next))
 }
 
-/// The parameter at `at`.
+/// Reads the parameter at token `at`.
 fn parameter_at(
     alloc: Global,
     text: &[u8],
@@ -98,7 +98,7 @@ fn parameter_at(
     Ok((Param { ty, name }, end))
 }
 
-/// The name of the Local at `at`, if one stands there.
+/// Reads the name of the Local at token `at`, if one stands there.
 fn maybe_local_at(
     alloc: Global,
     text: &[u8],
@@ -121,7 +121,7 @@ fn maybe_local_at(
     Ok((Some(name), end))
 }
 
-/// The types of parameters.
+/// Returns the types of parameters.
 pub fn types_of(alloc: Global, params: Vec<Param>) -> Result<Vec<Ty>, AllocError>
     ensures { IfOk result (λ types. types.items ≡ map (λ param. param.ty) params.items) }
 {

@@ -17,7 +17,7 @@ use ir_tree::module::Inst;
 use ir_tree::names::{NameId, Names};
 use std::alloc::Global;
 
-/// The name of the result at `at`, and the number of the token behind its `=`.
+/// Reads the name of the result at token `at`. Returns it and the number of the token after its `=`.
 fn result_at(
     alloc: Global,
     text: &[u8],
@@ -38,7 +38,8 @@ fn result_at(
     Ok((name, end))
 }
 
-/// The name of the result at `at`, if there is one, and the number of the token where the line goes on.
+/// Reads the name of the result at token `at`, if there is one, and the number of the token where the line
+/// goes on.
 fn maybe_result_at(
     alloc: Global,
     text: &[u8],
@@ -62,7 +63,8 @@ fn maybe_result_at(
     }
 }
 
-/// The phi at `at`, with its result, and the number of the token behind it. At most `budget` tokens are read.
+/// Reads the phi at token `at`, with its result. Returns it and the number of the next token. At most
+/// `budget` tokens are read.
 pub fn phi_line_at(
     alloc: Global,
     text: &[u8],
@@ -84,7 +86,8 @@ pub fn phi_line_at(
     Ok((Inst { result, body }, next))
 }
 
-/// The instruction at `at`, with its result, and the number of the token behind it. At most `budget` tokens are read.
+/// Reads the instruction at token `at`, with its result. Returns it and the number of the next token. At most
+/// `budget` tokens are read.
 pub fn inst_line_at(
     alloc: Global,
     text: &[u8],

@@ -53,7 +53,7 @@ impl Model for Names {
 }
 
 impl Names {
-    /// No names.
+    /// Makes a table without names.
     pub fn new(alloc: Global) -> Names
         ensures { result ≡ [] }
     {
@@ -72,7 +72,7 @@ impl Names {
         }
     }
 
-    /// How many names there are.
+    /// Returns how many names there are.
     pub fn len(&self) -> usize
         ensures len { result ≡ length self.now }
         ensures distinct { IsDistinct bytes_eq self.now }
@@ -80,14 +80,14 @@ impl Names {
         self.set.len()
     }
 
-    /// Whether there are no names.
+    /// Tells whether there are no names.
     pub fn is_empty(&self) -> bool
         ensures { IsTrue result ↔ (self.now ≡ []) }
     {
         self.set.is_empty()
     }
 
-    /// The number of a name: its place in the order in which distinct names were first given.
+    /// Returns the number of a name: its place in the order in which distinct names were first given.
     pub fn number(&mut self, name: &[u8]) -> Result<NameId, AllocError>
         requires { length self.old < 2 ^ 32 }
         ensures number { IfOk result (λ id. id.0 ≡ number_of self.old name.now) }
@@ -105,7 +105,7 @@ impl Names {
         Ok(NameId(index as u32))
     }
 
-    /// The name of a number, or `None` where the number isn't below the count of names.
+    /// Returns the name of a number, or `None` where the number isn't below the count of names.
     pub fn text(&self, id: NameId) -> Option<&[u8]>
         ensures text { option_copied result ≡ slice_get self.now id.0 }
         ensures found { IsSome result ↔ (id.0 < length self.now) }
