@@ -4,18 +4,18 @@ use Rattle.std.proofs.lemmas.List.{append_cancel_left}
 use Rattle.grammar.specs.Language.{Lang, Mark, empty, one, skip, seq, map_to, many, up_to, items, until, listed}
 use Rattle.ir_lex.specs.Symbols.{Symbol, MarkSymbol}
 use Rattle.ir_cursor.specs.Marks.{punct}
-use Rattle.ir_grammar_consts.specs.Depth.{open_behind, open_from}
+use Rattle.ir_grammar_consts.specs.Depth.{open_after, open_from}
 use Rattle.ir_grammar_consts.proofs.Sides.{punct_is}
 
 -- a symbol that opens a bracket, that closes one, and that does neither
 abbrev pub Opens : Symbol → Type 0
-Opens t = (n : ℕ) → open_behind n t ≡ n + 1
+Opens t = (n : ℕ) → open_after n t ≡ n + 1
 
 abbrev pub Closes : Symbol → Type 0
-Closes t = (n : ℕ) → open_behind (n + 1) t ≡ n
+Closes t = (n : ℕ) → open_after (n + 1) t ≡ n
 
 abbrev pub IsPlain : Symbol → Type 0
-IsPlain t = (n : ℕ) → open_behind n t ≡ n
+IsPlain t = (n : ℕ) → open_after n t ≡ n
 
 -- after ts as many brackets are open as before it; a front after which none is open, where some were before
 -- it, goes past ts
@@ -26,7 +26,7 @@ pub record IsEven (ts : List Symbol) : Type 0 where
 pub open_from-append : (n : ℕ) (xs ys : List Symbol) → open_from n (xs ++ ys) ≡ open_from (open_from n xs) ys
 unfolding open_from
 open_from-append n [] ys = refl
-open_from-append n (x ∷ xs) ys = open_from-append (open_behind n x) xs ys
+open_from-append n (x ∷ xs) ys = open_from-append (open_after n x) xs ys
 
 pub even_nil : IsEven []
 unfolding open_from
@@ -47,9 +47,9 @@ append_past xs ys even_x even_y n some rest p q e none =
     let past = even_x.past n some (ys ++ rest) p q (sym (append_assoc xs ys rest) ∙ e) none in
     let cut : xs ++ (ys ++ rest) ≡ xs ++ (past.0 ++ q) = sym (append_assoc xs ys rest) ∙ e ∙ ap (λ z. z ++ q) past.1 ∙ append_assoc xs past.0 q in
     let tail : ys ++ rest ≡ past.0 ++ q = append_cancel_left xs (ys ++ rest) (past.0 ++ q) cut in
-    let zero_behind : open_from n past.0 ≡ 0 =
+    let zero_after : open_from n past.0 ≡ 0 =
     ap (λ z. open_from z past.0) (sym (even_x.level n)) ∙ sym (open_from-append n xs past.0) ∙ ap (open_from n) (sym past.1) ∙ none in
-    let more = even_y.past n some rest past.0 q tail zero_behind in
+    let more = even_y.past n some rest past.0 q tail zero_after in
     (more.0, past.1 ∙ ap (λ z. xs ++ z) more.1 ∙ sym (append_assoc xs ys more.0))
 
 pub even_append : (xs ys : List Symbol) → IsEven xs → IsEven ys → IsEven (xs ++ ys)
@@ -66,9 +66,9 @@ closed_past body close even n some rest p q e none =
     let past = even.past n some (close ∷ rest) p q e none in
     let cut : body ++ (close ∷ rest) ≡ body ++ (past.0 ++ q) = e ∙ ap (λ z. z ++ q) past.1 ∙ append_assoc body past.0 q in
     let tail : close ∷ rest ≡ past.0 ++ q = append_cancel_left body (close ∷ rest) (past.0 ++ q) cut in
-    let zero_behind : open_from n past.0 ≡ 0 =
+    let zero_after : open_from n past.0 ≡ 0 =
     ap (λ z. open_from z past.0) (sym (even.level n)) ∙ sym (open_from-append n body past.0) ∙ ap (open_from n) (sym past.1) ∙ none in
-    let more = plain_past close n some rest past.0 q tail zero_behind in
+    let more = plain_past close n some rest past.0 q tail zero_after in
     (more.0, past.1 ∙ ap (λ z. body ++ z) more.1)
 
 bracket_past : (opening : Symbol) (body : List Symbol) (close : Symbol) → Opens opening → IsEven body → (n : ℕ) → 0 < n → (rest p q : List Symbol)
@@ -78,15 +78,15 @@ bracket_past opening body close opens even n some rest [] q e none = absurd (ome
 bracket_past opening body close opens even n some rest (x ∷ p) q e none =
     let same : x ≡ opening = cc in
     let tail : (body ++ close ∷ []) ++ rest ≡ p ++ q = cc in
-    let level : open_behind n x ≡ n + 1 = ap (open_behind n) same ∙ opens n in
-    let past = closed_past body close even (open_behind n x) (omega arith) rest p q (sym (append_assoc body (close ∷ []) rest) ∙ tail) none in
+    let level : open_after n x ≡ n + 1 = ap (open_after n) same ∙ opens n in
+    let past = closed_past body close even (open_after n x) (omega arith) rest p q (sym (append_assoc body (close ∷ []) rest) ∙ tail) none in
     (past.0, ap (λ z. z ∷ p) same ∙ ap (λ z. opening ∷ z) (past.1 ∙ sym (append_assoc body (close ∷ []) past.0)))
 
 pub even_bracket : (opening : Symbol) (body : List Symbol) (close : Symbol) → Opens opening → IsEven body → Closes close → IsEven (opening ∷ (body ++ close ∷ []))
 unfolding open_from
 even_bracket opening body close opens even closes = record {
   level = λ n.
-      ap (λ z. open_from z (body ++ close ∷ [])) (opens n) ∙ open_from-append (n + 1) body (close ∷ []) ∙ ap (λ z. open_behind z close) (even.level (n + 1)) ∙ closes n;
+      ap (λ z. open_from z (body ++ close ∷ [])) (opens n) ∙ open_from-append (n + 1) body (close ∷ []) ∙ ap (λ z. open_after z close) (even.level (n + 1)) ∙ closes n;
   past = bracket_past opening body close opens even;
 }
 

@@ -8,7 +8,7 @@ use Rattle.grammar.specs.FirstWrong.{Begins, Reads}
 use Rattle.grammar.proofs.Good.{never, Good, clear_never}
 use Rattle.grammar.proofs.Reading.{reads, reads_begun, one_reading}
 use Rattle.ir_lex.specs.Symbols.{Symbol}
-use Rattle.ir_grammar_consts.specs.Depth.{open_behind, open_from, IsShallow}
+use Rattle.ir_grammar_consts.specs.Depth.{open_after, open_from, IsShallow}
 use Rattle.ir_grammar_consts.specs.Counting.{deep_len}
 use Rattle.ir_grammar_consts.proofs.Depths.{deep_counted}
 use Rattle.ir_const.specs.Reach.{is_address_word, one_more, reach}
@@ -19,10 +19,10 @@ abbrev reach_step : Bool → Bool → ℕ × Bool → ℕ × Bool
 reach_step deep ends more = if deep then (1, true) else (if ends then (1, false) else one_more more)
 
 -- where the last symbol is a bracket that nests too deep, it is the first one
-deep_step : (n : ℕ) (t : Symbol) (ts : List Symbol) (deep ends : Bool) → (open_behind n t == 65) ≡ deep
-    → ((reach (open_behind n t) ts).1 ≡ true → deep_len (open_behind n t) ts ≡ Some (reach (open_behind n t) ts).0)
-    → (reach_step deep ends (reach (open_behind n t) ts)).1 ≡ true
-    → (if deep then Some 1 else option_map suc (deep_len (open_behind n t) ts)) ≡ Some (reach_step deep ends (reach (open_behind n t) ts)).0
+deep_step : (n : ℕ) (t : Symbol) (ts : List Symbol) (deep ends : Bool) → (open_after n t == 65) ≡ deep
+    → ((reach (open_after n t) ts).1 ≡ true → deep_len (open_after n t) ts ≡ Some (reach (open_after n t) ts).0)
+    → (reach_step deep ends (reach (open_after n t) ts)).1 ≡ true
+    → (if deep then Some 1 else option_map suc (deep_len (open_after n t) ts)) ≡ Some (reach_step deep ends (reach (open_after n t) ts)).0
 deep_step n t ts true ends e inner h = refl
 deep_step n t ts false true e inner h = cc
 deep_step n t ts false false e inner h = rw (inner h) refl
@@ -31,13 +31,13 @@ pub reach_deep : (n : ℕ) (ts : List Symbol) → (reach n ts).1 ≡ true → de
 unfolding reach deep_len
 reach_deep n [] h = cc
 reach_deep n (t ∷ ts) h =
-    deep_step n t ts (open_behind n t == 65) ((open_behind n t == 0) && not (is_address_word t)) refl (reach_deep (open_behind n t) ts) h
+    deep_step n t ts (open_after n t == 65) ((open_after n t == 0) && not (is_address_word t)) refl (reach_deep (open_after n t) ts) h
 
 -- where it isn't, no bracket up to it nests too deep
-shallow_step : (n : ℕ) (t : Symbol) (ts : List Symbol) (deep ends : Bool) → (open_behind n t == 65) ≡ deep
-    → ((reach (open_behind n t) ts).1 ≡ false → deep_len (open_behind n t) (take (reach (open_behind n t) ts).0 ts) ≡ None)
-    → (reach_step deep ends (reach (open_behind n t) ts)).1 ≡ false
-    → deep_len n (take (reach_step deep ends (reach (open_behind n t) ts)).0 (t ∷ ts)) ≡ None
+shallow_step : (n : ℕ) (t : Symbol) (ts : List Symbol) (deep ends : Bool) → (open_after n t == 65) ≡ deep
+    → ((reach (open_after n t) ts).1 ≡ false → deep_len (open_after n t) (take (reach (open_after n t) ts).0 ts) ≡ None)
+    → (reach_step deep ends (reach (open_after n t) ts)).1 ≡ false
+    → deep_len n (take (reach_step deep ends (reach (open_after n t) ts)).0 (t ∷ ts)) ≡ None
 unfolding deep_len
 shallow_step n t ts true ends e inner h = cc
 shallow_step n t ts false true e inner h = rw e refl
@@ -47,7 +47,7 @@ pub reach_shallow : (n : ℕ) (ts : List Symbol) → (reach n ts).1 ≡ false �
 unfolding reach deep_len
 reach_shallow n [] h = refl
 reach_shallow n (t ∷ ts) h =
-    shallow_step n t ts (open_behind n t == 65) ((open_behind n t == 0) && not (is_address_word t)) refl (reach_shallow (open_behind n t) ts) h
+    shallow_step n t ts (open_after n t == 65) ((open_after n t == 0) && not (is_address_word t)) refl (reach_shallow (open_after n t) ts) h
 
 -- these symbols end in one that is no word of an address, and after them no bracket is open
 pub record IsShut (n : ℕ) (ts : List Symbol) : Type 0 where
@@ -66,25 +66,25 @@ not_true : (b : Bool) → not b ≡ true → b ≡ false
 not_true true h = cc
 not_true false h = refl
 
-shut_one : (n : ℕ) (t : Symbol) → ((open_behind n t == 0) && not (is_address_word t)) ≡ true → IsShut n (t ∷ [])
+shut_one : (n : ℕ) (t : Symbol) → ((open_after n t == 0) && not (is_address_word t)) ≡ true → IsShut n (t ∷ [])
 unfolding open_from
 shut_one n t h =
-    let parts = and_parts (open_behind n t == 0) (not (is_address_word t)) h in
-    record { front = []; last = t; cut = refl; none = eqb-true (open_behind n t) 0 parts.0; other = not_true (is_address_word t) parts.1 }
+    let parts = and_parts (open_after n t == 0) (not (is_address_word t)) h in
+    record { front = []; last = t; cut = refl; none = eqb-true (open_after n t) 0 parts.0; other = not_true (is_address_word t) parts.1 }
 
-shut_more : (n : ℕ) (t : Symbol) (ts : List Symbol) → IsShut (open_behind n t) ts → IsShut n (t ∷ ts)
+shut_more : (n : ℕ) (t : Symbol) (ts : List Symbol) → IsShut (open_after n t) ts → IsShut n (t ∷ ts)
 unfolding open_from
 shut_more n t ts g = record { front = t ∷ g.front; last = g.last; cut = ap (λ z. t ∷ z) g.cut; none = g.none; other = g.other }
 
-ends_step : (n : ℕ) (t : Symbol) (ts : List Symbol) (deep ends : Bool) → ((open_behind n t == 0) && not (is_address_word t)) ≡ ends
-    → ((reach (open_behind n t) ts).1 ≡ false → ((reach (open_behind n t) ts).0 ≡ length ts) ⊎ IsShut (open_behind n t) (take (reach (open_behind n t) ts).0 ts))
-    → (reach_step deep ends (reach (open_behind n t) ts)).1 ≡ false
-    → ((reach_step deep ends (reach (open_behind n t) ts)).0 ≡ length (t ∷ ts)) ⊎ IsShut n (take (reach_step deep ends (reach (open_behind n t) ts)).0 (t ∷ ts))
+ends_step : (n : ℕ) (t : Symbol) (ts : List Symbol) (deep ends : Bool) → ((open_after n t == 0) && not (is_address_word t)) ≡ ends
+    → ((reach (open_after n t) ts).1 ≡ false → ((reach (open_after n t) ts).0 ≡ length ts) ⊎ IsShut (open_after n t) (take (reach (open_after n t) ts).0 ts))
+    → (reach_step deep ends (reach (open_after n t) ts)).1 ≡ false
+    → ((reach_step deep ends (reach (open_after n t) ts)).0 ≡ length (t ∷ ts)) ⊎ IsShut n (take (reach_step deep ends (reach (open_after n t) ts)).0 (t ∷ ts))
 ends_step n t ts true ends e inner h = cc
 ends_step n t ts false true e inner h = inr (shut_one n t e)
 ends_step n t ts false false e inner h = elim (inner h) [
   | inl all ↦ inl (ap suc all)
-  | inr shut ↦ inr (shut_more n t (take (reach (open_behind n t) ts).0 ts) shut)
+  | inr shut ↦ inr (shut_more n t (take (reach (open_after n t) ts).0 ts) shut)
 ]
 
 -- where it isn't, it is the last symbol of all, or the brackets are shut there
@@ -92,9 +92,9 @@ pub reach_ends : (n : ℕ) (ts : List Symbol) → (reach n ts).1 ≡ false → (
 unfolding reach
 reach_ends n [] h = inl refl
 reach_ends n (t ∷ ts) h =
-    ends_step n t ts (open_behind n t == 65) ((open_behind n t == 0) && not (is_address_word t)) refl (reach_ends (open_behind n t) ts) h
+    ends_step n t ts (open_after n t == 65) ((open_after n t == 0) && not (is_address_word t)) refl (reach_ends (open_after n t) ts) h
 
-within_step : (n : ℕ) (t : Symbol) (ts : List Symbol) (deep ends : Bool) → (reach (open_behind n t) ts).0 ≤ length ts → (reach_step deep ends (reach (open_behind n t) ts)).0 ≤ length (t ∷ ts)
+within_step : (n : ℕ) (t : Symbol) (ts : List Symbol) (deep ends : Bool) → (reach (open_after n t) ts).0 ≤ length ts → (reach_step deep ends (reach (open_after n t) ts)).0 ≤ length (t ∷ ts)
 within_step n t ts true ends h = omega arith
 within_step n t ts false true h = omega arith
 within_step n t ts false false h = omega arith
@@ -102,7 +102,7 @@ within_step n t ts false false h = omega arith
 pub reach_within : (n : ℕ) (ts : List Symbol) → (reach n ts).0 ≤ length ts
 unfolding reach
 reach_within n [] = omega arith
-reach_within n (t ∷ ts) = within_step n t ts (open_behind n t == 65) ((open_behind n t == 0) && not (is_address_word t)) (reach_within (open_behind n t) ts)
+reach_within n (t ∷ ts) = within_step n t ts (open_after n t == 65) ((open_after n t == 0) && not (is_address_word t)) (reach_within (open_after n t) ts)
 
 -- two cuts of one list: one front goes on to the other
 fronts : (xs ys rest more : List Symbol) → xs ++ rest ≡ ys ++ more

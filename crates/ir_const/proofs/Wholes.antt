@@ -7,7 +7,7 @@ use Rattle.ir_tree.specs.Shape.{TyShape, ConstShape}
 use Rattle.ir_words.specs.declared.words.Keyword.TheVariants.{Integer, Ptr, Void, True, False, Null, Undef, Poison, ZeroInitializer, GetElementPtr, InBounds, Nuw}
 use Rattle.ir_lex.specs.Symbols.{Symbol, KeywordSymbol, LocalSymbol, GlobalSymbol, NumberSymbol, TextSymbol, MarkSymbol}
 use Rattle.ir_cursor.specs.Marks.{punct}
-use Rattle.ir_grammar_consts.specs.Depth.{open_behind, open_from}
+use Rattle.ir_grammar_consts.specs.Depth.{open_after, open_from}
 use Rattle.ir_grammar_consts.specs.Types.{count, times, is_width, TyHead, WholeType, ArrayOpen, FieldsOpen, PackedOpen, ty_head, ty_rest, ty_rule, ty}
 use Rattle.ir_grammar_consts.specs.Constants.{address_flag, ConstHead, WholeConst, ElementsOpen, ValuesOpen, PackedValuesOpen, AddressOpen, const_head, typed_const, operands, const_rest, const_rule, const}
 use Rattle.ir_const.specs.Reach.{is_address_word}
@@ -74,15 +74,15 @@ unfolding open_from
 bracket_ends ts g [] t q e none =
     let all : g.opening ∷ g.inner ≡ t ∷ q = sym g.cut ∙ e in
     let same : g.opening ≡ t = cc in
-    let one_open : open_behind 0 t ≡ 0 + 1 = ap (open_behind 0) (sym same) ∙ g.opens 0 in
+    let one_open : open_after 0 t ≡ 0 + 1 = ap (open_after 0) (sym same) ∙ g.opens 0 in
     absurd (omega arith)
 bracket_ends ts g (x ∷ front) t q e none =
     let all : g.opening ∷ g.inner ≡ x ∷ ((front ++ t ∷ []) ++ q) = sym g.cut ∙ e in
     let same : g.opening ≡ x = cc in
     let tail : g.inner ≡ (front ++ t ∷ []) ++ q = cc in
-    let one_open : open_behind 0 x ≡ 0 + 1 = ap (open_behind 0) (sym same) ∙ g.opens 0 in
+    let one_open : open_after 0 x ≡ 0 + 1 = ap (open_after 0) (sym same) ∙ g.opens 0 in
     let inner : g.closed.body ++ (g.closed.close ∷ []) ≡ (front ++ t ∷ []) ++ q = sym g.closed.cut ∙ tail in
-    let past = closed_past g.closed.body g.closed.close g.closed.even (open_behind 0 x) (omega arith) [] (front ++ t ∷ []) q inner none in
+    let past = closed_past g.closed.body g.closed.close g.closed.even (open_after 0 x) (omega arith) [] (front ++ t ∷ []) q inner none in
     nil_left q
     (omega (
       arith,
@@ -110,7 +110,7 @@ words_end (w ∷ words) rest go_on last [] t q e none other =
 words_end (w ∷ words) rest go_on last (x ∷ front) t q e none other =
     let same : w ≡ x = cc in
     let tail : words ++ rest ≡ (front ++ t ∷ []) ++ q = cc in
-    let level : open_behind 0 x ≡ 0 = ap (open_behind 0) (sym same) ∙ word_plain w (and_left _ _ go_on) 0 in
+    let level : open_after 0 x ≡ 0 = ap (open_after 0) (sym same) ∙ word_plain w (and_left _ _ go_on) 0 in
     words_end words rest (and_right _ _ go_on) last front t q tail (ap (λ z. open_from z (front ++ t ∷ [])) (sym level) ∙ none) other
 
 -- a front of it after which no bracket is open is all of it, but where it ends in a word of an address

@@ -2,7 +2,7 @@
 use Rattle.std.specs.Prelude.{ℕ, suc, ◌==◌, ◌&&◌, Bool, true, false, not, List, [], ◌∷◌, if◌then◌else◌}
 use Rattle.ir_words.specs.declared.words.Keyword.TheVariants.{GetElementPtr, InBounds, Nuw}
 use Rattle.ir_lex.specs.Symbols.{Symbol, KeywordSymbol}
-use Rattle.ir_grammar_consts.specs.Depth.{open_behind}
+use Rattle.ir_grammar_consts.specs.Depth.{open_after}
 
 -- the words that a constant may have before its first bracket: `getelementptr` and its flags
 abbrev pub is_address_word : Symbol → Bool
@@ -21,5 +21,5 @@ one_more r = (suc r.0, r.1)
 unfoldable pub reach : ℕ → List Symbol → ℕ × Bool
 reach n [] = (0, false)
 reach n (t ∷ ts) =
-    if open_behind n t == 65 then (1, true)
-    else (if (open_behind n t == 0) && not (is_address_word t) then (1, false) else one_more (reach (open_behind n t) ts))
+    if open_after n t == 65 then (1, true)
+    else (if (open_after n t == 0) && not (is_address_word t) then (1, false) else one_more (reach (open_after n t) ts))

@@ -2,7 +2,7 @@
 
 ghost use Rattle.std.specs.Prelude.{◌≡◌, ◌+◌, ◌<◌, ◌≤◌, length, drop, IfSome};
 ghost use Rattle.ir_lex.specs.Symbols.{symbol_of, symbols_of};
-ghost use Rattle.ir_grammar_consts.specs.Depth.{open_behind};
+ghost use Rattle.ir_grammar_consts.specs.Depth.{open_after};
 ghost use Rattle.ir_grammar_consts.specs.Counting.{deep_len};
 ghost use Rattle.ir_const.specs.Answers.{symbols_from};
 ghost use Rattle.ir_const.specs.Places.{cut_of};
@@ -11,9 +11,9 @@ use ir_cursor::{Meaning, meaning_of};
 use ir_lex::Token;
 
 /// Returns how many brackets are open after a token, where `depth` are before it.
-pub fn open_behind(text: &[u8], token: &Token, depth: usize) -> usize
+pub fn open_after(text: &[u8], token: &Token, depth: usize) -> usize
     requires { depth < 65 }
-    ensures { result ≡ open_behind depth (symbol_of text.now token.now) }
+    ensures { result ≡ open_after depth (symbol_of text.now token.now) }
 {
     match meaning_of(text, token) {
         Meaning::Mark(b'(' | b'[' | b'{' | b'<') => depth + 1,
@@ -27,11 +27,11 @@ pub fn deep_end(text: &[u8], toks: &[Token], from: usize) -> Option<usize>
     requires { from ≤ length toks.now }
     ensures deep { result ≡ cut_of from (deep_len 0 (symbols_from text.now toks.now from)) }
     ensures within { IfSome result (λ end. end ≤ length toks.now) }
-    ensures behind { IfSome result (λ end. from < end) }
+    ensures after { IfSome result (λ end. from < end) }
 {
     let mut depth = 0;
     for at in from..toks.len() {
-        depth = open_behind(text, &toks[at], depth);
+        depth = open_after(text, &toks[at], depth);
         if depth == 65 {
             return Some(at + 1);
         }

@@ -5,7 +5,7 @@ ghost use Rattle.ir_lex.specs.Symbols.{symbol_of};
 ghost use Rattle.ir_const.specs.Answers.{symbols_from};
 ghost use Rattle.ir_const.specs.Reach.{is_address_word, reach};
 
-use crate::depth::open_behind;
+use crate::depth::open_after;
 use ir_cursor::{Meaning, meaning_of};
 use ir_lex::{Keyword, Token};
 
@@ -41,7 +41,7 @@ pub fn reach_of(text: &[u8], toks: &[Token], from: usize) -> Reach
     let mut depth = 0;
     for at in from..toks.len() {
         let token = &toks[at];
-        depth = open_behind(text, token, depth);
+        depth = open_after(text, token, depth);
         if depth == 65 {
             return Reach {
                 end: at + 1,

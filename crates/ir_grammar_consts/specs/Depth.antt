@@ -13,14 +13,14 @@ abbrev pub is_closing : ℕ → Bool
 is_closing b = (b == 41) || (b == 93) || (b == 125) || (b == 62)
 
 -- how many brackets are open after a symbol, where n are open before it
-abbrev pub open_behind : ℕ → Symbol → ℕ
-open_behind n (MarkSymbol b) = if is_opening b then n + 1 else (if is_closing b then n - 1 else n)
-open_behind n _ = n
+abbrev pub open_after : ℕ → Symbol → ℕ
+open_after n (MarkSymbol b) = if is_opening b then n + 1 else (if is_closing b then n - 1 else n)
+open_after n _ = n
 
 -- how many brackets are open after these symbols, where n are open before them
 unfoldable pub open_from : ℕ → List Symbol → ℕ
 open_from n [] = n
-open_from n (t ∷ ts) = open_from (open_behind n t) ts
+open_from n (t ∷ ts) = open_from (open_after n t) ts
 
 -- the last of these symbols is a bracket, which is the first one that is the 65th open one, where n are open before them
 pub record IsTooDeep (n : ℕ) (front : List Symbol) : Type 0 where

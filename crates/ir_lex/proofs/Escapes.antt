@@ -4,22 +4,22 @@ use Rattle.std.proofs.lemmas.List.{drop-drop, drop_all}
 use Rattle.std.proofs.lemmas.Bool.{eq-eqb}
 use Rattle.std.proofs.lemmas.Bool.Decides.{eqb_tells}
 use Rattle.ir_lex.proofs.Pieces.{above_zero}
-use Rattle.ir_lex.specs.Meaning.{escape, unescaped, unescaped_behind}
+use Rattle.ir_lex.specs.Meaning.{escape, unescaped, unescaped_after}
 use Rattle.ir_lex.specs.Names.{is_empty, begins_as}
 
-unescaped-skip : (n : ℕ) (bs : List ℕ) → unescaped_behind n bs ≡ unescaped_behind 0 (drop n bs)
-unfolding unescaped_behind
+unescaped-skip : (n : ℕ) (bs : List ℕ) → unescaped_after n bs ≡ unescaped_after 0 (drop n bs)
+unfolding unescaped_after
 unescaped-skip zero bs = refl
 unescaped-skip (suc n) [] = refl
 unescaped-skip (suc n) (b ∷ bs) = unescaped-skip n bs
 
 unescaped-byte : (bs : List ℕ) (n : ℕ) → 0 < length bs → (escape bs).1 ≡ n → 0 < n → unescaped bs ≡ (escape bs).0 ∷ unescaped (drop n bs)
-unfolding unescaped_behind
+unfolding unescaped_after
 unescaped-byte [] n l e h = absurd (omega arith)
 unescaped-byte (b ∷ bs) zero l e h = absurd (omega arith)
 unescaped-byte (b ∷ bs) (suc n) l e h =
     let less : (escape (b ∷ bs)).1 - 1 ≡ n = omega (arith, e) in
-    ap (λ rest. (escape (b ∷ bs)).0 ∷ rest) (ap (λ k. unescaped_behind k bs) less ∙ unescaped-skip n bs)
+    ap (λ rest. (escape (b ∷ bs)).0 ∷ rest) (ap (λ k. unescaped_after k bs) less ∙ unescaped-skip n bs)
 
 -- the next byte that is spelled
 pub spelled-on : (body : List ℕ) (at : ℕ) (t : ℕ × ℕ) → at < length body → t ≡ escape (drop at body) → 0 < t.1 → unescaped (drop at body) ≡ t.0 ∷ unescaped (drop (at + t.1) body)
@@ -30,7 +30,7 @@ spelled-on body at t l e h =
 
 -- nothing is left to read
 pub spelled-end : (body bytes : List ℕ) (at : ℕ) → length body ≤ at → bytes ++ unescaped (drop at body) ≡ bytes
-unfolding unescaped_behind
+unfolding unescaped_after
 spelled-end body bytes at l = let none : drop at body ≡ [] = drop_all at body l in rw none (append-nil bytes)
 
 -- one byte more at the end of a list
@@ -48,7 +48,7 @@ begins-on whole body start at i t l k e h =
 
 -- nothing is left of the name
 pub begins-short : (whole : Bool) (body start : List ℕ) (at i : ℕ) → length body ≤ at → i < length start → begins_as whole (unescaped (drop at body)) (drop i start) ≡ false
-unfolding begins_as unescaped_behind
+unfolding begins_as unescaped_after
 begins-short whole body start at i l k =
     let none : drop at body ≡ [] = drop_all at body l in
     let cut : drop i start ≡ get_or start i 0 ∷ drop (i + 1) start = rw add-one (drop-cons start i 0 k) in
@@ -60,7 +60,7 @@ unfolding begins_as
 begins-end whole body start at i l = let none : drop i start ≡ [] = drop_all i start l in rw none refl
 
 empty-name : (bs : List ℕ) → is_empty (unescaped bs) ≡ (length bs == 0)
-unfolding unescaped_behind
+unfolding unescaped_after
 empty-name [] = refl
 empty-name (b ∷ bs) = sym (above_zero (length (b ∷ bs)) (omega arith))
 

@@ -90,7 +90,7 @@ name_is v r (inl h) s =
     name_of_run v r h ∙ count
 name_is v r (inr h) s = name_of_string v r h ∙ string_is v r h
 
--- a label: a name, and a colon directly behind it
+-- a label: a name, and a colon directly after it
 abbrev pub IsLabel : List ℕ → Type 0
 IsLabel w = (name : List ℕ) × (w ≡ name ++ 58 ∷ []) × IsName name
 

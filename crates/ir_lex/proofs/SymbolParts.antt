@@ -1,6 +1,6 @@
 -- The parts of a token's symbol are what its bytes say.
 use Rattle.std.proofs.Common.{◌≡◌, ℕ, ℤ, Bool, List, [], ◌∷◌, Option, Some, None, refl}
-use Rattle.ir_lex.specs.Meaning.{spelling, text_spelling, name_of, unescaped, unescaped_behind}
+use Rattle.ir_lex.specs.Meaning.{spelling, text_spelling, name_of, unescaped, unescaped_after}
 use Rattle.ir_lex.specs.Symbols.{symbol_of, number_symbol, mark_symbol, integer_value, text_in, name_in}
 use Rattle.ir_lex.specs.declared.token.Token.{Token}
 use Rattle.ir_lex.specs.declared.token.Kind.{Kind}
@@ -27,7 +27,7 @@ mark_name (b ∷ w) = refl
 
 text_at : (text : List ℕ) (k : Kind) (start to : ℕ) (first : Bool)
     → unescaped (text_spelling text (token k start to first)) ≡ text_in (symbol_of text (token k start to first))
-unfolding unescaped_behind
+unfolding unescaped_after
 text_at text Local s e f = refl
 text_at text Global s e f = refl
 text_at text CStr s e f = refl
@@ -46,7 +46,7 @@ text_of-symbol_of text t = text_at text t.kind t.start t.end t.first
 
 name_at : (text : List ℕ) (k : Kind) (start to : ℕ) (first : Bool)
     → name_of text (token k start to first) ≡ name_in (symbol_of text (token k start to first))
-unfolding unescaped_behind
+unfolding unescaped_after
 name_at text Local s e f = refl
 name_at text Global s e f = refl
 name_at text CStr s e f = refl

@@ -21,7 +21,7 @@ abbrev pub after_byte : ℕ → (List ℕ → Option ℕ) → List ℕ → Optio
 after_byte b piece [] = None
 after_byte b piece (x ∷ xs) = if x == b then one_more (piece xs) else None
 
--- what the piece finds, behind a sign or without one
+-- what the piece finds, after a sign or without one
 abbrev pub after_sign : (List ℕ → Option ℕ) → List ℕ → Option ℕ
 after_sign piece [] = piece []
 after_sign piece (x ∷ xs) = if is_sign x then one_more (piece xs) else piece (x ∷ xs)
@@ -50,7 +50,7 @@ string_len = after_byte 34 quoted_end_len
 abbrev pub name_len : List ℕ → Option ℕ
 name_len text = if begins_by (λ b. b == 34) text then string_len text else run_len is_name_byte text
 
--- a colon behind the name
+-- a colon after the name
 abbrev pub colon_len : List ℕ → ℕ → Option ℕ
 colon_len text n = if begins_by (λ b. b == 58) (drop n text) then Some (n + 1) else None
 

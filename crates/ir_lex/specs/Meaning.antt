@@ -31,15 +31,15 @@ escape [] = (0, 1)
 escape (a ∷ []) = (a, 1)
 escape (a ∷ b ∷ rest) = if a == 92 then (if b == 92 then (92, 2) else hex_escape b rest) else (a, 1)
 
--- the bytes that a list spells behind its first `skip` bytes
-unfoldable pub unescaped_behind : ℕ → List ℕ → List ℕ
-unescaped_behind skip [] = []
-unescaped_behind zero (b ∷ bs) = (escape (b ∷ bs)).0 ∷ unescaped_behind ((escape (b ∷ bs)).1 - 1) bs
-unescaped_behind (suc skip) (b ∷ bs) = unescaped_behind skip bs
+-- the bytes that a list spells after its first `skip` bytes
+unfoldable pub unescaped_after : ℕ → List ℕ → List ℕ
+unescaped_after skip [] = []
+unescaped_after zero (b ∷ bs) = (escape (b ∷ bs)).0 ∷ unescaped_after ((escape (b ∷ bs)).1 - 1) bs
+unescaped_after (suc skip) (b ∷ bs) = unescaped_after skip bs
 
 -- the bytes that a list spells
 abbrev pub unescaped : List ℕ → List ℕ
-unescaped = unescaped_behind 0
+unescaped = unescaped_after 0
 
 -- a name without its quotes
 abbrev pub unquoted : List ℕ → List ℕ
@@ -55,7 +55,7 @@ name_spelling text t = by_kind t.kind (spelling text t)
     by_kind Label w = unquoted (take (length w - 1) w)
     by_kind _ w = []
 
--- the bytes that spell those of a string behind `c`, without `c` and quotes
+-- the bytes that spell those of a string after `c`, without `c` and quotes
 abbrev pub text_spelling : List ℕ → Token → List ℕ
 text_spelling text t = by_kind t.kind (spelling text t)
   where

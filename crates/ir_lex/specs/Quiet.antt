@@ -46,7 +46,7 @@ continues t = not t.first
 abbrev pub rest_of_line : List Token → List Token
 rest_of_line toks = take (prefix_len continues toks) toks
 
--- how many tokens a line has, by those behind its first one
+-- how many tokens a line has, by those after its first one
 abbrev pub line_len : List Token → ℕ
 line_len toks = length (rest_of_line toks) + 1
 
@@ -140,17 +140,17 @@ phrase_len text Hashes toks = hash_token toks
 phrase_len text Groups toks = group_phrase text toks
 phrase_len text QuietWords toks = quiet_word text toks
 
--- what is left behind the first `skip` tokens, once each phrase is dropped, from left to right
-unfoldable pub left_behind : (List Token → Option ℕ) → ℕ → List Token → List Token
-left_behind phrase skip [] = []
-left_behind phrase zero (t ∷ toks) =
-    if is_some (phrase (t ∷ toks)) then left_behind phrase (unwrap_or (phrase (t ∷ toks)) 1 - 1) toks
-    else t ∷ left_behind phrase 0 toks
-left_behind phrase (suc skip) (t ∷ toks) = left_behind phrase skip toks
+-- what is left after the first `skip` tokens, once each phrase is dropped, from left to right
+unfoldable pub left_after : (List Token → Option ℕ) → ℕ → List Token → List Token
+left_after phrase skip [] = []
+left_after phrase zero (t ∷ toks) =
+    if is_some (phrase (t ∷ toks)) then left_after phrase (unwrap_or (phrase (t ∷ toks)) 1 - 1) toks
+    else t ∷ left_after phrase 0 toks
+left_after phrase (suc skip) (t ∷ toks) = left_after phrase skip toks
 
 -- what a rule leaves
 abbrev pub without : List ℕ → Rule → List Token → List Token
-without text rule toks = left_behind (phrase_len text rule) 0 toks
+without text rule toks = left_after (phrase_len text rule) 0 toks
 
 -- the tokens that are kept: what the seven rules leave, one after another
 abbrev pub kept_of : List ℕ → List Token → List Token

@@ -15,7 +15,7 @@ abbrev pub Follows : ℕ → (List ℕ → Type 0) → List ℕ → Type 0
 Follows b L [] = ⊥
 Follows b L (x ∷ xs) = (x ≡ b) × L xs
 
--- such a list behind a byte that passes the test
+-- such a list after a byte that passes the test
 abbrev pub Behind : (ℕ → Bool) → (List ℕ → Type 0) → List ℕ → Type 0
 Behind p L [] = ⊥
 Behind p L (x ∷ xs) = (p x ≡ true) × L xs

@@ -3,7 +3,7 @@
 ghost use Rattle.std.specs.Prelude.{◌≡◌};
 ghost use Rattle.ir_lex.specs.Bytes.{is_name_byte, is_word_start, is_meta_byte, is_punct, is_sign, is_exponent_mark, is_blank};
 
-/// A byte of a name without quotes: a letter, a digit, `$`, `.`, `_` or `-`.
+/// Tells whether the byte may stand in a name without quotes: a letter, a digit, `$`, `.`, `_` or `-`.
 #[tactic(auto, unfolding(crate::specs::Bytes::is_name_byte))]
 pub fn is_name_byte(b: u8) -> bool
     ensures { result ≡ is_name_byte b }
@@ -16,7 +16,7 @@ pub fn is_name_byte(b: u8) -> bool
         || b == b'-'
 }
 
-/// A byte that a word begins with: a letter, `$`, `.` or `_`.
+/// Tells whether the byte may begin a word: a letter, `$`, `.` or `_`.
 #[tactic(auto, unfolding(crate::specs::Bytes::is_word_start))]
 pub fn is_word_start(b: u8) -> bool
     ensures { result ≡ is_word_start b }
@@ -24,7 +24,7 @@ pub fn is_word_start(b: u8) -> bool
     b.is_ascii_alphabetic() || b == b'$' || b == b'.' || b == b'_'
 }
 
-/// A byte that may follow `!` in a token.
+/// Tells whether the byte may follow `!` in a token.
 #[tactic(auto, unfolding(crate::specs::Bytes::is_meta_byte))]
 pub fn is_meta_byte(b: u8) -> bool
     ensures { result ≡ is_meta_byte b }
@@ -32,7 +32,7 @@ pub fn is_meta_byte(b: u8) -> bool
     is_name_byte(b) || b == b'\\'
 }
 
-/// `=`, `,`, `*`, `|` or a bracket.
+/// Tells whether the byte is `=`, `,`, `*`, `|` or a bracket.
 #[tactic(auto, unfolding(crate::specs::Bytes::is_punct))]
 pub fn is_punct(b: u8) -> bool
     ensures { result ≡ is_punct b }
@@ -51,7 +51,7 @@ pub fn is_punct(b: u8) -> bool
         || b == b'|'
 }
 
-/// `+` or `-`.
+/// Tells whether the byte is `+` or `-`.
 #[tactic(auto, unfolding(crate::specs::Bytes::is_sign))]
 pub fn is_sign(b: u8) -> bool
     ensures { result ≡ is_sign b }
@@ -59,7 +59,7 @@ pub fn is_sign(b: u8) -> bool
     b == b'+' || b == b'-'
 }
 
-/// `e` or `E`.
+/// Tells whether the byte is `e` or `E`.
 #[tactic(auto, unfolding(crate::specs::Bytes::is_exponent_mark))]
 pub fn is_exponent_mark(b: u8) -> bool
     ensures { result ≡ is_exponent_mark b }
@@ -67,7 +67,7 @@ pub fn is_exponent_mark(b: u8) -> bool
     b == b'e' || b == b'E'
 }
 
-/// A space, a tab, a carriage return or a line feed.
+/// Tells whether the byte is a space, a tab, a carriage return or a line feed.
 #[tactic(auto, unfolding(crate::specs::Bytes::is_blank))]
 pub fn is_blank(b: u8) -> bool
     ensures { result ≡ is_blank b }

@@ -10,7 +10,7 @@ use crate::bytes::{
 };
 use ir_words::digits::{digit_count, is_digit};
 
-/// How many bytes of a name the text begins with.
+/// Returns how many bytes of a name the text begins with.
 fn name_byte_count(text: &[u8]) -> usize
     ensures count { result ≡ prefix_len is_name_byte text.now }
     ensures within { result ≤ length text.now }
@@ -18,7 +18,7 @@ fn name_byte_count(text: &[u8]) -> usize
     text.iter().take_while(|b| is_name_byte(**b)).count()
 }
 
-/// How many bytes that may follow `!` the text begins with.
+/// Returns how many bytes that may follow `!` the text begins with.
 fn meta_byte_count(text: &[u8]) -> usize
     ensures count { result ≡ prefix_len is_meta_byte text.now }
     ensures within { result ≤ length text.now }
@@ -26,7 +26,7 @@ fn meta_byte_count(text: &[u8]) -> usize
     text.iter().take_while(|b| is_meta_byte(**b)).count()
 }
 
-/// How many bytes but quotes the text begins with.
+/// Returns how many bytes but quotes the text begins with.
 #[tactic(auto, unfolding(crate::specs::Bytes::is_not_quote))]
 fn unquoted_count(text: &[u8]) -> usize
     ensures count { result ≡ prefix_len is_not_quote text.now }
@@ -35,7 +35,7 @@ fn unquoted_count(text: &[u8]) -> usize
     text.iter().take_while(|b| **b != b'"').count()
 }
 
-/// How many bytes but line feeds the text begins with.
+/// Returns how many bytes but line feeds the text begins with.
 #[tactic(auto, unfolding(crate::specs::Bytes::is_not_line_feed))]
 fn line_count(text: &[u8]) -> usize
     ensures count { result ≡ prefix_len is_not_line_feed text.now }
@@ -44,7 +44,7 @@ fn line_count(text: &[u8]) -> usize
     text.iter().take_while(|b| **b != b'\n').count()
 }
 
-/// Whether the text begins with this byte.
+/// Tells whether the text begins with this byte.
 pub fn begins_with(text: &[u8], b: u8) -> bool
     ensures { result ≡ begins_by (λ x. x == b) text.now }
 {
@@ -54,7 +54,7 @@ pub fn begins_with(text: &[u8], b: u8) -> bool
     }
 }
 
-/// One or more bytes of a name.
+/// Measures one or more bytes of a name at the start of the text.
 fn name_run(text: &[u8]) -> Option<usize>
     ensures value { result ≡ run_len is_name_byte text.now }
     ensures within { IfSome result (λ n. n ≤ length text.now) }
@@ -63,7 +63,7 @@ fn name_run(text: &[u8]) -> Option<usize>
     if count == 0 { None } else { Some(count) }
 }
 
-/// One or more digits.
+/// Measures one or more digits at the start of the text.
 fn digit_run(text: &[u8]) -> Option<usize>
     ensures value { result ≡ run_len is_digit text.now }
     ensures within { IfSome result (λ n. n ≤ length text.now) }
@@ -72,7 +72,7 @@ fn digit_run(text: &[u8]) -> Option<usize>
     if count == 0 { None } else { Some(count) }
 }
 
-/// A string in quotes.
+/// Measures a string in quotes at the start of the text.
 pub fn string(text: &[u8]) -> Option<usize>
     ensures value { result ≡ string_len text.now }
     ensures within { IfSome result (λ n. n ≤ length text.now) }
@@ -87,7 +87,7 @@ pub fn string(text: &[u8]) -> Option<usize>
     Some(count + 2)
 }
 
-/// A name: bytes of names, or a string.
+/// Measures a name: bytes of names, or a string, at the start of the text.
 fn name(text: &[u8]) -> Option<usize>
     ensures value { result ≡ name_len text.now }
     ensures within { IfSome result (λ n. n ≤ length text.now) }
@@ -99,7 +99,7 @@ fn name(text: &[u8]) -> Option<usize>
     }
 }
 
-/// A name behind `%`.
+/// Measures a name after `%` at the start of the text.
 pub fn local(text: &[u8]) -> Option<usize>
     ensures value { result ≡ after_byte 37 name_len text.now }
     ensures within { IfSome result (λ n. n ≤ length text.now) }
@@ -110,7 +110,7 @@ pub fn local(text: &[u8]) -> Option<usize>
     name(inner).map(|count| count + 1)
 }
 
-/// A name behind `@`.
+/// Measures a name after `@` at the start of the text.
 pub fn global(text: &[u8]) -> Option<usize>
     ensures value { result ≡ after_byte 64 name_len text.now }
     ensures within { IfSome result (λ n. n ≤ length text.now) }
@@ -121,7 +121,7 @@ pub fn global(text: &[u8]) -> Option<usize>
     name(inner).map(|count| count + 1)
 }
 
-/// A string directly behind `c`.
+/// Measures a string directly after `c` at the start of the text.
 pub fn c_string(text: &[u8]) -> Option<usize>
     ensures value { result ≡ after_byte 99 string_len text.now }
     ensures within { IfSome result (λ n. n ≤ length text.now) }
@@ -132,7 +132,7 @@ pub fn c_string(text: &[u8]) -> Option<usize>
     string(inner).map(|count| count + 1)
 }
 
-/// `#` and a name without quotes.
+/// Measures `#` and a name without quotes at the start of the text.
 pub fn hash(text: &[u8]) -> Option<usize>
     ensures value { result ≡ after_byte 35 (run_len is_name_byte) text.now }
     ensures within { IfSome result (λ n. n ≤ length text.now) }
@@ -143,7 +143,7 @@ pub fn hash(text: &[u8]) -> Option<usize>
     name_run(inner).map(|count| count + 1)
 }
 
-/// `!` and the bytes that belong to it.
+/// Measures `!` and the bytes that belong to it at the start of the text.
 pub fn meta(text: &[u8]) -> Option<usize>
     ensures value { result ≡ after_byte 33 (λ rest. Some (prefix_len is_meta_byte rest)) text.now }
     ensures within { IfSome result (λ n. n ≤ length text.now) }
@@ -154,7 +154,7 @@ pub fn meta(text: &[u8]) -> Option<usize>
     Some(meta_byte_count(inner) + 1)
 }
 
-/// A word.
+/// Measures a word at the start of the text.
 pub fn word(text: &[u8]) -> Option<usize>
     ensures value { result ≡ word_len text.now }
     ensures within { IfSome result (λ n. n ≤ length text.now) }
@@ -165,7 +165,7 @@ pub fn word(text: &[u8]) -> Option<usize>
     }
 }
 
-/// A byte of punctuation.
+/// Measures a byte of punctuation at the start of the text.
 pub fn punct(text: &[u8]) -> Option<usize>
     ensures value { result ≡ punct_len text.now }
     ensures within { IfSome result (λ n. n ≤ length text.now) }
@@ -176,7 +176,7 @@ pub fn punct(text: &[u8]) -> Option<usize>
     }
 }
 
-/// A blank, or a comment up to its line's end.
+/// Measures a blank, or a comment up to its line's end, at the start of the text.
 pub fn gap(text: &[u8]) -> Option<usize>
     ensures value { result ≡ gap_len text.now }
     ensures within { IfSome result (λ n. n ≤ length text.now) }
@@ -189,7 +189,7 @@ pub fn gap(text: &[u8]) -> Option<usize>
     }
 }
 
-/// How many bytes from the first on begin no label, where it is known already of `known` bytes.
+/// Returns how many bytes at its start begin no label, where it is known already of `known` bytes.
 ///
 /// Bytes of names that no colon follows are looked through once, however many tokens they are.
 pub fn unlabelled_count(text: &[u8], known: usize) -> usize
@@ -207,7 +207,8 @@ pub fn unlabelled_count(text: &[u8], known: usize) -> usize
     }
 }
 
-/// A name and a colon, where no label begins at the first `unlabelled` bytes.
+/// Measures a name and a colon, where no label begins at the first `unlabelled` bytes, at the start of
+/// the text.
 pub fn label(text: &[u8], unlabelled: usize) -> Option<usize>
     requires { NoLabels unlabelled text.now }
     ensures value { result ≡ label_len text.now }
@@ -224,7 +225,7 @@ pub fn label(text: &[u8], unlabelled: usize) -> Option<usize>
     }
 }
 
-/// A sign or none, and digits.
+/// Measures a sign or none, and digits, at the start of the text.
 fn signed_digits(text: &[u8]) -> Option<usize>
     ensures value { result ≡ signed_digits_len text.now }
     ensures within { IfSome result (λ n. n ≤ length text.now) }
@@ -235,7 +236,7 @@ fn signed_digits(text: &[u8]) -> Option<usize>
     }
 }
 
-/// The exponent of a float, or nothing.
+/// Measures the exponent of a float, or nothing, at the start of the text.
 fn exponent(text: &[u8]) -> usize
     ensures value { result ≡ exponent_len text.now }
     ensures within { result ≤ length text.now }
@@ -249,7 +250,8 @@ fn exponent(text: &[u8]) -> usize
     }
 }
 
-/// What follows the point of a float: digits or none, and an exponent or none.
+/// Measures what follows the point of a float: digits or none, and an exponent or none, at the start of
+/// the text.
 fn decimals(text: &[u8]) -> usize
     ensures value { result ≡ decimals_len text.now }
     ensures within { result ≤ length text.now }
@@ -258,7 +260,7 @@ fn decimals(text: &[u8]) -> usize
     count + exponent(&text[count..])
 }
 
-/// Digits, a point, and what follows it.
+/// Measures digits, a point, and what follows it, at the start of the text.
 fn fraction(text: &[u8]) -> Option<usize>
     ensures value { result ≡ fraction_len text.now }
     ensures within { IfSome result (λ n. n ≤ length text.now) }
@@ -273,7 +275,7 @@ fn fraction(text: &[u8]) -> Option<usize>
     }
 }
 
-/// A float in decimal, with a sign or without.
+/// Measures a float in decimal, with a sign or without, at the start of the text.
 fn decimal(text: &[u8]) -> Option<usize>
     ensures value { result ≡ after_sign fraction_len text.now }
     ensures within { IfSome result (λ n. n ≤ length text.now) }
@@ -284,7 +286,7 @@ fn decimal(text: &[u8]) -> Option<usize>
     }
 }
 
-/// A float in hexadecimal.
+/// Measures a float in hexadecimal at the start of the text.
 fn hexadecimal(text: &[u8]) -> Option<usize>
     ensures value { result ≡ hexadecimal_len text.now }
     ensures within { IfSome result (λ n. n ≤ length text.now) }
@@ -295,7 +297,7 @@ fn hexadecimal(text: &[u8]) -> Option<usize>
     name_run(digits).map(|count| count + 1 + 1)
 }
 
-/// A float.
+/// Measures a float at the start of the text.
 pub fn float(text: &[u8]) -> Option<usize>
     ensures value { result ≡ float_len text.now }
     ensures within { IfSome result (λ n. n ≤ length text.now) }

@@ -10,7 +10,7 @@ use crate::token::{Kind, Token};
 use ir_words::{Keyword, keyword_of};
 use std::alloc::{AllocError, Global};
 
-/// The bytes of a token, as they stand in the text.
+/// Returns the bytes of a token, as they stand in the text.
 pub fn spelling<'a>(text: &'a [u8], token: &Token) -> &'a [u8]
     ensures { result.now ≡ spelling text.now token.now }
 {
@@ -18,7 +18,7 @@ pub fn spelling<'a>(text: &'a [u8], token: &Token) -> &'a [u8]
     &rest[..token.end.saturating_sub(token.start).min(rest.len())]
 }
 
-/// What the word of a token stands for; `Other` for a token that isn't a word.
+/// Returns what the word of a token stands for; `Other` for a token that isn't a word.
 pub fn word_of(text: &[u8], token: &Token) -> Keyword
     ensures value { result ≡ word_of text.now token.now }
     ensures symbol { result ≡ keyword_in (symbol_of text.now token.now) }
@@ -29,14 +29,14 @@ pub fn word_of(text: &[u8], token: &Token) -> Keyword
     }
 }
 
-/// Whether the byte is a hexadecimal digit.
+/// Tells whether the byte is a hexadecimal digit.
 fn is_hex(b: u8) -> bool
     ensures { result ≡ is_hex b }
 {
     (b > 47 && b < 58) || (b > 64 && b < 71) || (b > 96 && b < 103)
 }
 
-/// The number of a hexadecimal digit.
+/// Returns the number of a hexadecimal digit.
 fn hex_value(b: u8) -> u8
     requires { is_hex b ≡ true }
     ensures value { result ≡ hex_value b }
@@ -51,7 +51,7 @@ fn hex_value(b: u8) -> u8
     }
 }
 
-/// The byte that a text begins with, and how many bytes spell it.
+/// Returns the byte that a text begins with, and how many bytes spell it.
 ///
 /// `\\` is a backslash, `\` and two hexadecimal digits are that byte, and any other byte is itself.
 #[tactic(auto, unfolding(crate::specs::Meaning::escape))]
@@ -71,7 +71,7 @@ fn escape(text: &[u8]) -> (u8, usize)
     }
 }
 
-/// A name without its quotes.
+/// Returns a name without its quotes.
 fn unquoted(name: &[u8]) -> &[u8]
     ensures { result.now ≡ unquoted name.now }
 {
@@ -81,7 +81,7 @@ fn unquoted(name: &[u8]) -> &[u8]
     }
 }
 
-/// What follows the first byte.
+/// Returns what follows the first byte.
 fn without_first(bytes: &[u8]) -> &[u8]
     ensures { result.now ≡ drop 1 bytes.now }
 {
@@ -91,7 +91,8 @@ fn without_first(bytes: &[u8]) -> &[u8]
     }
 }
 
-/// The bytes that spell the name of a local, a global or a label, without `%`, `@`, `:` and quotes.
+/// Returns the bytes that spell the name of a local, a global or a label, without `%`, `@`, `:` and
+/// quotes.
 pub fn name_spelling<'a>(text: &'a [u8], token: &Token) -> &'a [u8]
     ensures { result.now ≡ name_spelling text.now token.now }
 {
@@ -103,7 +104,7 @@ pub fn name_spelling<'a>(text: &'a [u8], token: &Token) -> &'a [u8]
     }
 }
 
-/// The bytes that spell those of a string behind `c`, without `c` and quotes.
+/// Returns the bytes that spell those of a string after `c`, without `c` and quotes.
 pub fn text_spelling<'a>(text: &'a [u8], token: &Token) -> &'a [u8]
     ensures { result.now ≡ text_spelling text.now token.now }
 {
@@ -113,7 +114,7 @@ pub fn text_spelling<'a>(text: &'a [u8], token: &Token) -> &'a [u8]
     }
 }
 
-/// The bytes that a text spells.
+/// Returns the bytes that a text spells.
 pub fn unescaped(alloc: Global, body: &[u8]) -> Result<Vec<u8>, AllocError>
     ensures { IfOk result (λ bytes. bytes.items ≡ unescaped body.now) }
 {
@@ -127,8 +128,8 @@ pub fn unescaped(alloc: Global, body: &[u8]) -> Result<Vec<u8>, AllocError>
     Ok(bytes)
 }
 
-/// The name of a local, a global or a label: its bytes without `%`, `@`, `:` and quotes, with `\` forms
-/// read. Any other token has the empty name.
+/// Returns the name of a local, a global or a label: its bytes without `%`, `@`, `:` and quotes, with
+/// `\` forms read. Any other token has the empty name.
 #[tactic(auto, using(crate::proofs::SymbolParts::symbol_parts))]
 pub fn name_of(alloc: Global, text: &[u8], token: &Token) -> Result<Vec<u8>, AllocError>
     ensures value { IfOk result (λ name. name.items ≡ name_of text.now token.now) }
@@ -137,7 +138,8 @@ pub fn name_of(alloc: Global, text: &[u8], token: &Token) -> Result<Vec<u8>, All
     unescaped(alloc, name_spelling(text, token))
 }
 
-/// Whether a name that is spelled so begins with these bytes, and is no longer where it is to be whole.
+/// Tells whether a name that is spelled so begins with these bytes, and is no longer where it is to be
+/// whole.
 pub fn begins_as(whole: bool, body: &[u8], start: &[u8]) -> bool
     ensures { result ≡ begins_as whole (unescaped body.now) start.now }
 {

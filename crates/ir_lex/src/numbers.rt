@@ -12,7 +12,7 @@ use ir_words::digits::{digit_count, value};
 /// The number from which on an integer without a sign doesn't fit 128 bits with a sign.
 const PAST_MOST: u128 = 1 << 127;
 
-/// Whether the number of these digits is below the limit.
+/// Tells whether the number of these digits is below the limit.
 pub fn is_below(digits: &[u8], limit: u128) -> bool
     requires digits { Passes is_digit digits.now }
     requires small { limit < 2 ^ 128 - 1 }
@@ -21,7 +21,7 @@ pub fn is_below(digits: &[u8], limit: u128) -> bool
     value(digits) < limit
 }
 
-/// Whether the text begins with a byte of a name.
+/// Tells whether the text begins with a byte of a name.
 fn begins_with_name_byte(text: &[u8]) -> bool
     ensures { result ≡ begins_by is_name_byte text.now }
 {
@@ -31,7 +31,8 @@ fn begins_with_name_byte(text: &[u8]) -> bool
     }
 }
 
-/// Digits of a number below the limit, which no byte of a name follows.
+/// Measures digits of a number below the limit, which no byte of a name follows, at the start of the
+/// text.
 fn number(text: &[u8], limit: u128) -> Option<usize>
     requires { limit < 2 ^ 128 - 1 }
     ensures value { result ≡ number_len limit text.now }
@@ -51,7 +52,8 @@ fn number(text: &[u8], limit: u128) -> Option<usize>
     }
 }
 
-/// An integer that fits 128 bits with a sign, and that no byte of a name follows.
+/// Measures an integer that fits 128 bits with a sign, and that no byte of a name follows, at the start
+/// of the text.
 pub fn integer(text: &[u8]) -> Option<usize>
     ensures value { result ≡ integer_len text.now }
     ensures within { IfSome result (λ n. n ≤ length text.now) }

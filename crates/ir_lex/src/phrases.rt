@@ -62,14 +62,14 @@ fn is_punctuation(kind: Kind) -> bool
     matches!(kind, Kind::Punct)
 }
 
-/// Whether the token is this byte of punctuation.
+/// Tells whether the token is this byte of punctuation.
 fn is_byte(text: &[u8], b: u8, token: &Token) -> bool
     ensures { result ≡ is_byte text.now b token.now }
 {
     is_punctuation(token.kind) && begins_with(spelling(text, token), b)
 }
 
-/// How many tokens there are up to the end of the line.
+/// Returns how many tokens there are up to the end of the line.
 fn count_on_line(toks: &[Token]) -> usize
     ensures count { result ≡ prefix_len continues toks.now }
     ensures within { result ≤ length toks.now }
@@ -77,7 +77,7 @@ fn count_on_line(toks: &[Token]) -> usize
     toks.iter().take_while(|token| !token.first).count()
 }
 
-/// The tokens up to the end of the line.
+/// Returns the tokens up to the end of the line.
 fn rest_of_line(toks: &[Token]) -> &[Token]
     ensures line { result.now ≡ rest_of_line toks.now }
     ensures within { length result.now ≤ length toks.now }
@@ -85,7 +85,7 @@ fn rest_of_line(toks: &[Token]) -> &[Token]
     &toks[..count_on_line(toks)]
 }
 
-/// Whether a line is dropped that begins with this token.
+/// Tells whether a line is dropped that begins with this token.
 fn begins_header(text: &[u8], token: &Token) -> bool
     ensures { result ≡ begins_header text.now token.now }
 {
@@ -100,8 +100,8 @@ fn begins_header(text: &[u8], token: &Token) -> bool
     }
 }
 
-/// A line whose first token is a word of headers, a word that begins with `$`, a meta, or a hash that
-/// begins with `#dbg_`.
+/// Measures a line whose first token is a word of headers, a word that begins with `$`, a meta, or a
+/// hash that begins with `#dbg_`, at the head of the list, in tokens.
 fn header_line(text: &[u8], toks: &[Token]) -> Option<usize>
     ensures value { result ≡ header_line text.now toks.now }
     ensures some { IfSome result (λ n. 0 < n) }
@@ -115,7 +115,7 @@ fn header_line(text: &[u8], toks: &[Token]) -> Option<usize>
     }
 }
 
-/// Whether a name is that of a function that only tells the optimizer something.
+/// Tells whether a name is that of a function that only tells the optimizer something.
 fn is_note_name(text: &[u8], token: &Token) -> bool
     ensures { result ≡ is_note_name (name_of text.now token.now) }
 {
@@ -125,7 +125,7 @@ fn is_note_name(text: &[u8], token: &Token) -> bool
         || begins_as(false, name, b"llvm.lifetime.")
 }
 
-/// Whether the first global of a line is a note to the optimizer.
+/// Tells whether the first global of a line is a note to the optimizer.
 fn names_note(text: &[u8], line: &[Token]) -> bool
     ensures { result ≡ names_note text.now line.now }
 {
@@ -137,8 +137,8 @@ fn names_note(text: &[u8], line: &[Token]) -> bool
     false
 }
 
-/// A line whose first token is `declare` or a word of calls, and whose first global is a note to the
-/// optimizer.
+/// Measures a line whose first token is `declare` or a word of calls, and whose first global is a note
+/// to the optimizer, at the head of the list, in tokens.
 fn note_line(text: &[u8], toks: &[Token]) -> Option<usize>
     ensures value { result ≡ note_line text.now toks.now }
     ensures some { IfSome result (λ n. 0 < n) }
@@ -158,7 +158,7 @@ fn note_line(text: &[u8], toks: &[Token]) -> Option<usize>
     }
 }
 
-/// Two metas in a row.
+/// Measures two metas in a row at the head of the list, in tokens.
 fn meta_pair(toks: &[Token]) -> Option<usize>
     ensures value { result ≡ meta_pair toks.now }
     ensures some { IfSome result (λ n. 0 < n) }
@@ -170,7 +170,7 @@ fn meta_pair(toks: &[Token]) -> Option<usize>
     }
 }
 
-/// Two metas in a row, and a comma directly before them.
+/// Measures two metas in a row, and a comma directly before them, at the head of the list, in tokens.
 fn meta_phrase(text: &[u8], toks: &[Token]) -> Option<usize>
     ensures value { result ≡ and_comma text.now meta_pair toks.now }
     ensures some { IfSome result (λ n. 0 < n) }
@@ -182,7 +182,7 @@ fn meta_phrase(text: &[u8], toks: &[Token]) -> Option<usize>
     }
 }
 
-/// How many tokens there are up to the parenthesis that closes the group, or to the end.
+/// Returns how many tokens there are up to the parenthesis that closes the group, or to the end.
 fn closing(text: &[u8], toks: &[Token]) -> usize
     ensures count { result ≡ closing_len text.now 0 toks.now }
     ensures within { result ≤ length toks.now }
@@ -201,7 +201,7 @@ fn closing(text: &[u8], toks: &[Token]) -> usize
     toks.len()
 }
 
-/// A group: from `(` to its `)`, or to the end.
+/// Measures a group: from `(` to its `)`, or to the end, at the head of the list, in tokens.
 fn group(text: &[u8], toks: &[Token]) -> Option<usize>
     ensures value { result ≡ group_len text.now toks.now }
     ensures some { IfSome result (λ n. 0 < n) }
@@ -213,7 +213,7 @@ fn group(text: &[u8], toks: &[Token]) -> Option<usize>
     }
 }
 
-/// An integer, or a group.
+/// Measures an integer, or a group, at the head of the list, in tokens.
 fn amount(text: &[u8], toks: &[Token]) -> Option<usize>
     ensures value { result ≡ amount_len text.now toks.now }
     ensures some { IfSome result (λ n. 0 < n) }
@@ -225,7 +225,7 @@ fn amount(text: &[u8], toks: &[Token]) -> Option<usize>
     }
 }
 
-/// `align` with an integer or a group.
+/// Measures `align` with an integer or a group at the head of the list, in tokens.
 fn alignment(text: &[u8], toks: &[Token]) -> Option<usize>
     ensures value { result ≡ alignment text.now toks.now }
     ensures some { IfSome result (λ n. 0 < n) }
@@ -239,7 +239,8 @@ fn alignment(text: &[u8], toks: &[Token]) -> Option<usize>
     }
 }
 
-/// `align` with an integer or a group, and a comma directly before it.
+/// Measures `align` with an integer or a group, and a comma directly before it, at the head of the list,
+/// in tokens.
 fn alignment_phrase(text: &[u8], toks: &[Token]) -> Option<usize>
     ensures value { result ≡ and_comma text.now (alignment text.now) toks.now }
     ensures some { IfSome result (λ n. 0 < n) }
@@ -253,7 +254,7 @@ fn alignment_phrase(text: &[u8], toks: &[Token]) -> Option<usize>
     }
 }
 
-/// A hash.
+/// Measures a hash at the head of the list, in tokens.
 fn hash_token(toks: &[Token]) -> Option<usize>
     ensures value { result ≡ hash_token toks.now }
     ensures some { IfSome result (λ n. 0 < n) }
@@ -265,7 +266,7 @@ fn hash_token(toks: &[Token]) -> Option<usize>
     }
 }
 
-/// How many tokens a word and the group have that directly follows it, if one does.
+/// Returns how many tokens a word and the group have that directly follows it, if one does.
 fn word_and_group(text: &[u8], rest: &[Token]) -> Option<usize>
     ensures value { result ≡ word_and_group text.now rest.now }
     ensures some { IfSome result (λ n. 0 < n) }
@@ -274,7 +275,7 @@ fn word_and_group(text: &[u8], rest: &[Token]) -> Option<usize>
     Some(group(text, rest).unwrap_or(0) + 1)
 }
 
-/// `comdat`, with a group that directly follows it.
+/// Measures `comdat`, with a group that directly follows it, at the head of the list, in tokens.
 fn comdat_phrase(text: &[u8], toks: &[Token]) -> Option<usize>
     ensures value { result ≡ comdat_phrase text.now toks.now }
     ensures some { IfSome result (λ n. 0 < n) }
@@ -286,7 +287,8 @@ fn comdat_phrase(text: &[u8], toks: &[Token]) -> Option<usize>
     }
 }
 
-/// A group word with a group that directly follows it, and a comma directly before `comdat`.
+/// Measures a group word with a group that directly follows it, and a comma directly before `comdat`, at
+/// the head of the list, in tokens.
 fn group_phrase(text: &[u8], toks: &[Token]) -> Option<usize>
     ensures value { result ≡ group_phrase text.now toks.now }
     ensures some { IfSome result (λ n. 0 < n) }
@@ -301,7 +303,7 @@ fn group_phrase(text: &[u8], toks: &[Token]) -> Option<usize>
     }
 }
 
-/// A quiet word.
+/// Measures a quiet word at the head of the list, in tokens.
 fn quiet_word(text: &[u8], toks: &[Token]) -> Option<usize>
     ensures value { result ≡ quiet_word text.now toks.now }
     ensures some { IfSome result (λ n. 0 < n) }
@@ -313,7 +315,7 @@ fn quiet_word(text: &[u8], toks: &[Token]) -> Option<usize>
     }
 }
 
-/// How many tokens there are of what the rule drops, where the list begins with it.
+/// Returns how many tokens there are of what the rule drops, where the list begins with it.
 #[tactic(auto, unfolding(crate::specs::Quiet::phrase_len))]
 pub fn phrase(text: &[u8], rule: Rule, toks: &[Token]) -> Option<usize>
     ensures value { result ≡ phrase_len text.now rule toks.now }

@@ -10,7 +10,7 @@ use crate::token::Token;
 use ir_words::is_outside_word;
 use std::alloc::{AllocError, Global};
 
-/// What a rule leaves of a token list.
+/// Returns what a rule leaves of a token list.
 fn without(alloc: Global, text: &[u8], rule: Rule, toks: &[Token]) -> Result<Vec<Token>, AllocError>
     ensures { IfOk result (λ kept. kept.items ≡ without text.now rule toks.now) }
 {
@@ -28,7 +28,7 @@ fn without(alloc: Global, text: &[u8], rule: Rule, toks: &[Token]) -> Result<Vec
     Ok(kept)
 }
 
-/// What the seven rules leave of a token list.
+/// Returns what the seven rules leave of a token list.
 fn kept(alloc: Global, text: &[u8], toks: &[Token]) -> Result<Vec<Token>, AllocError>
     ensures { IfOk result (λ kept. kept.items ≡ kept_of text.now toks.now) }
 {
@@ -41,7 +41,7 @@ fn kept(alloc: Global, text: &[u8], toks: &[Token]) -> Result<Vec<Token>, AllocE
     without(alloc, text, Rule::QuietWords, &kept)
 }
 
-/// The place and the length of the first word that is outside the language.
+/// Returns the place and the length of the first word that is outside the language.
 fn first_outside(text: &[u8], toks: &[Token]) -> Option<(usize, usize)>
     ensures { result ≡ first_outside text.now toks.now }
 {
@@ -53,7 +53,8 @@ fn first_outside(text: &[u8], toks: &[Token]) -> Option<(usize, usize)>
     None
 }
 
-/// The tokens that are kept once attributes, metadata and what else changes no meaning are dropped.
+/// Returns the tokens that are kept once attributes, metadata and what else changes no meaning are
+/// dropped.
 ///
 /// The rules are those of `Rule`, each applied to what the one before it leaves. `Outside` names the first
 /// kept word that is outside the language; `Bad` is never answered. The time is linear in the tokens.

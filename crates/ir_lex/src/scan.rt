@@ -13,11 +13,11 @@ use crate::numbers::integer;
 use crate::token::{Kind, Token};
 use std::alloc::Global;
 
-/// The tokens of a text, in order.
+/// Returns the tokens of a text, in order.
 ///
 /// The text is blanks, comments and tokens. Each token is taken by the first rule that fits, in the order
 /// of `Kind`, and is as long as its rule allows. `Bad` names the place where no token, blank or comment
-/// begins, behind tokens, blanks and comments; a text has at most one such place, and then no token list.
+/// begins, after tokens, blanks and comments; a text has at most one such place, and then no token list.
 /// The time is linear in the length of the text.
 pub fn tokens(alloc: Global, text: &[u8]) -> Result<Vec<Token>, LexError>
     ensures tokens { IfOk result (λ toks. AreTokens text.now toks.items) }
@@ -55,8 +55,8 @@ pub fn tokens(alloc: Global, text: &[u8]) -> Result<Vec<Token>, LexError>
     Ok(toks)
 }
 
-/// The kind and the length of the token that the text begins with, by the first rule that fits, where no
-/// label begins at the first `unlabelled` bytes.
+/// Returns the kind and the length of the token that the text begins with, by the first rule that fits,
+/// where no label begins at the first `unlabelled` bytes.
 #[tactic(auto, unfolding(crate::specs::Lengths::length_of))]
 fn first_token(text: &[u8], unlabelled: usize) -> Option<(Kind, usize)>
     requires { NoLabels unlabelled text.now }

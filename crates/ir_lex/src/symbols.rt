@@ -11,7 +11,7 @@ use std::alloc::{AllocError, Global};
 /// The number from which on an integer without a sign doesn't fit 128 bits with a sign.
 const PAST_MOST: u128 = 1 << 127;
 
-/// The number of these digits, where they are digits and their number is below the limit.
+/// Returns the number of these digits, where they are digits and their number is below the limit.
 fn number_below(limit: u128, digits: &[u8]) -> Option<u128>
     requires { limit < 2 ^ 128 - 1 }
     ensures { result ≡ number_below limit digits.now }
@@ -23,7 +23,7 @@ fn number_below(limit: u128, digits: &[u8]) -> Option<u128>
     if number < limit { Some(number) } else { None }
 }
 
-/// A number of at most 2^127, negated.
+/// Returns a number of at most 2^127, negated.
 fn negated(number: u128) -> i128
     requires { number ≤ 2 ^ 127 }
     ensures { result ≡ neg_ℤ (pos number) }
@@ -35,7 +35,8 @@ fn negated(number: u128) -> i128
     }
 }
 
-/// The number that digits spell, with a minus sign or without one, where it fits 128 bits with a sign.
+/// Returns the number that digits spell, with a minus sign or without one, where it fits 128 bits with a
+/// sign.
 fn integer_value(digits: &[u8]) -> Option<i128>
     ensures { result ≡ integer_value digits.now }
 {
@@ -51,7 +52,7 @@ fn integer_value(digits: &[u8]) -> Option<i128>
     }
 }
 
-/// The number of an integer. Any other token has none.
+/// Returns the number of an integer. Any other token has none.
 pub fn number_of(text: &[u8], token: &Token) -> Option<i128>
     ensures { result ≡ number_in (symbol_of text.now token.now) }
 {
@@ -61,7 +62,7 @@ pub fn number_of(text: &[u8], token: &Token) -> Option<i128>
     }
 }
 
-/// The bytes of a string behind `c`, with `\` forms read. Any other token has none.
+/// Returns the bytes of a string after `c`, with `\` forms read. Any other token has none.
 #[tactic(auto, using(crate::proofs::SymbolParts::symbol_parts))]
 pub fn text_of(alloc: Global, text: &[u8], token: &Token) -> Result<Vec<u8>, AllocError>
     ensures { IfOk result (λ bytes. bytes.items ≡ text_in (symbol_of text.now token.now)) }
@@ -69,7 +70,7 @@ pub fn text_of(alloc: Global, text: &[u8], token: &Token) -> Result<Vec<u8>, All
     unescaped(alloc, text_spelling(text, token))
 }
 
-/// The byte of a token of punctuation. Any other token has none.
+/// Returns the byte of a token of punctuation. Any other token has none.
 pub fn mark_of(text: &[u8], token: &Token) -> Option<u8>
     ensures { result ≡ mark_in (symbol_of text.now token.now) }
 {

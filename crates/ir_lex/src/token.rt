@@ -34,7 +34,7 @@ pub struct Token {
     pub kind: Kind,
     /// The offset of its first byte.
     pub start: usize,
-    /// The offset behind its last byte.
+    /// The offset after its last byte.
     pub end: usize,
     /// Whether it is the first token on its line.
     pub first: bool,

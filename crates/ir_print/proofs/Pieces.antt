@@ -4,8 +4,8 @@ use Rattle.std.proofs.Common.{◌≡◌, ℕ, Bool, true, false, List, [], ◌�
 use Rattle.std.specs.Prelude.{◌||◌, ◌&&◌}
 use Rattle.ir_words.specs.declared.words.Keyword.TheVariants.{To}
 use Rattle.ir_lex.specs.Symbols.{Symbol, KeywordSymbol, MarkSymbol}
-use Rattle.ir_print_symbols.specs.Printed.{text_of_symbol, is_opening, is_closing, is_global, is_mark, touches, between, joined, joined_behind, last_of}
-use Rattle.ir_print_symbols.proofs.Joining.{joined_behind-append}
+use Rattle.ir_print_symbols.specs.Printed.{text_of_symbol, is_opening, is_closing, is_global, is_mark, touches, between, joined, joined_after, last_of}
+use Rattle.ir_print_symbols.proofs.Joining.{joined_after-append}
 use Rattle.ir_grammar_insts.specs.Spelling.{in_a_row, with_commas, more}
 use Rattle.ir_print_consts.specs.Texts.{in_row}
 use Rattle.ir_print_consts.proofs.Rows.{Starts, opening_text, closed_text, spaced_text, last_of_end}
@@ -13,7 +13,7 @@ use Rattle.ir_print.specs.Texts.{in_spaces, row_blank}
 
 -- a row after a plain symbol
 abbrev pub behind : List Symbol → List ℕ
-behind ss = joined_behind (KeywordSymbol To) ss
+behind ss = joined_after (KeywordSymbol To) ss
 
 -- the row doesn't begin with `(` or `>`, which touch some symbols and not others
 abbrev pub Follows : List Symbol → Type 0
@@ -47,9 +47,9 @@ same_touch o c g p q x y r d e f h = rw (d, e, f, h) (by_cases c g q)
     by_cases false false false = refl
 
 -- what stands after a symbol that doesn't open stands after each such symbol
-pub same_behind : (a : Symbol) (ss : List Symbol) → is_opening a ≡ false → is_mark 60 a ≡ false → Follows ss → joined_behind a ss ≡ behind ss
-same_behind a [] d e f = refl
-same_behind a (s ∷ ss) d e f =
+pub same_after : (a : Symbol) (ss : List Symbol) → is_opening a ≡ false → is_mark 60 a ≡ false → Follows ss → joined_after a ss ≡ behind ss
+same_after a [] d e f = refl
+same_after a (s ∷ ss) d e f =
     let t : touches a s ≡ touches (KeywordSymbol To) s =
     same_touch (is_opening a) (is_closing s) (is_global a) (is_mark 60 a) (is_mark 125 a) (is_mark 40 s) (is_mark 123 s) (is_mark 62 s) d e f.0 f.1 in
     rw t refl
@@ -62,12 +62,12 @@ follows-append : (a b : List Symbol) → Follows a → Follows b → Follows (a 
 follows-append [] b f g = g
 follows-append (s ∷ a) b f g = f
 
-whole_behind : (x : Symbol) (b : List Symbol) → is_opening x ≡ false → is_mark 60 x ≡ false → Whole b → (is_opening (last_of x b) ≡ false) × (is_mark 60 (last_of x b) ≡ false)
-whole_behind x [] d e w = (d, e)
-whole_behind x (s ∷ b) d e w = w
+whole_after : (x : Symbol) (b : List Symbol) → is_opening x ≡ false → is_mark 60 x ≡ false → Whole b → (is_opening (last_of x b) ≡ false) × (is_mark 60 (last_of x b) ≡ false)
+whole_after x [] d e w = (d, e)
+whole_after x (s ∷ b) d e w = w
 
 whole-append : (a b : List Symbol) → Whole a → Whole b → Whole (a ++ b)
-whole-append a b v w = rw (last_of-append (KeywordSymbol To) a b) (whole_behind (last_of (KeywordSymbol To) a) b v.0 v.1 w)
+whole-append a b v w = rw (last_of-append (KeywordSymbol To) a b) (whole_after (last_of (KeywordSymbol To) a) b v.0 v.1 w)
 
 -- two parts
 pub both : {a b : List Symbol} {s t : List ℕ} → Piece a s → Piece b t → Piece (a ++ b) (s ++ t)
@@ -75,8 +75,8 @@ both {a} {b} {s} {t} p q = record {
   follows = follows-append a b p.follows q.follows;
   whole = whole-append a b p.whole q.whole;
   spaced =
-      joined_behind-append (KeywordSymbol To) a b
-      ∙ ap (λ z. behind a ++ z) (same_behind (last_of (KeywordSymbol To) a) b p.whole.0 p.whole.1 q.follows)
+      joined_after-append (KeywordSymbol To) a b
+      ∙ ap (λ z. behind a ++ z) (same_after (last_of (KeywordSymbol To) a) b p.whole.0 p.whole.1 q.follows)
       ∙ ap (λ z. z ++ behind b) p.spaced
       ∙ ap (λ z. s ++ z) q.spaced;
 }
@@ -140,9 +140,9 @@ parens_item row ss text gap i e =
         follows = first_follows row parens i.starts i.piece.follows;
         whole = (ap is_opening last, ap (is_mark 60) last);
         spaced =
-            joined_behind-append (KeywordSymbol To) row parens
-            ∙ ap (λ z. z ++ joined_behind (last_of (KeywordSymbol To) row) parens) i.piece.spaced
-            ∙ ap (λ z. (32 ∷ text) ++ (z ++ (40 ∷ joined_behind (MarkSymbol 40) (ss ++ MarkSymbol 41 ∷ [])))) e
+            joined_after-append (KeywordSymbol To) row parens
+            ∙ ap (λ z. z ++ joined_after (last_of (KeywordSymbol To) row) parens) i.piece.spaced
+            ∙ ap (λ z. (32 ∷ text) ++ (z ++ (40 ∷ joined_after (MarkSymbol 40) (ss ++ MarkSymbol 41 ∷ [])))) e
             ∙ ap (λ z. (32 ∷ text) ++ (gap ++ (40 ∷ z))) (opening_text 40 (ss ++ MarkSymbol 41 ∷ []) refl ∙ closed_text ss 41 refl);
       };
     }
@@ -159,8 +159,8 @@ pub brace_text : {row : List Symbol} {text : List ℕ} → Item row text → joi
 brace_text {row} {text} i =
     let last : Symbol = last_of (KeywordSymbol To) row in
     let whole : behind (row ++ MarkSymbol 123 ∷ []) ≡ 32 ∷ (text ++ 32 ∷ 123 ∷ []) =
-    joined_behind-append (KeywordSymbol To) row (MarkSymbol 123 ∷ [])
-    ∙ ap (λ z. behind row ++ z) (same_behind last (MarkSymbol 123 ∷ []) i.piece.whole.0 i.piece.whole.1 (refl, refl))
+    joined_after-append (KeywordSymbol To) row (MarkSymbol 123 ∷ [])
+    ∙ ap (λ z. behind row ++ z) (same_after last (MarkSymbol 123 ∷ []) i.piece.whole.0 i.piece.whole.1 (refl, refl))
     ∙ ap (λ z. z ++ 32 ∷ 123 ∷ []) i.piece.spaced in
     same_rest 32 (joined (row ++ MarkSymbol 123 ∷ [])) (text ++ 32 ∷ 123 ∷ []) (sym (starts_spaced (row ++ MarkSymbol 123 ∷ []) (more_starts row (MarkSymbol 123 ∷ []) i.starts)) ∙ whole)
 

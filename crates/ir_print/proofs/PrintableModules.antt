@@ -249,9 +249,9 @@ items_printable m h =
     let declares = in_a_row declare_spelling m.declares in
     let functions = in_a_row function_spelling m.functions in
     let globals = in_a_row global_spelling m.globals in
-    let behind_globals = printable_both declares functions (row_printable declare_spelling m.declares h.of_declares) (row_printable function_spelling m.functions h.of_functions) in
-    let behind_types = printable_both globals (declares ++ functions) (row_printable global_spelling m.globals h.of_globals) behind_globals in
-    printable_both (in_a_row type_spelling m.types) (globals ++ (declares ++ functions)) (row_printable type_spelling m.types h.of_types) behind_types
+    let after_globals = printable_both declares functions (row_printable declare_spelling m.declares h.of_declares) (row_printable function_spelling m.functions h.of_functions) in
+    let after_types = printable_both globals (declares ++ functions) (row_printable global_spelling m.globals h.of_globals) after_globals in
+    printable_both (in_a_row type_spelling m.types) (globals ++ (declares ++ functions)) (row_printable type_spelling m.types h.of_types) after_types
 
 -- a module that readable symbols spell is printable
 pub module_printable : (ts : List Symbol) (m : ModuleShape) → whole_module ts m → AreReadable ts → ArePrintable (module_spelling m)

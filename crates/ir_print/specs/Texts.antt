@@ -79,8 +79,8 @@ blank true = 32 ∷ []
 
 -- texts in a row with a blank between them, and before the first where something stands before it
 abbrev pub in_spaces : Bool → List (List ℕ) → List ℕ
-in_spaces behind [] = []
-in_spaces behind (t ∷ ts) = blank behind ++ (t ++ in_spaces true ts)
+in_spaces spaced [] = []
+in_spaces spaced (t ∷ ts) = blank spaced ++ (t ++ in_spaces true ts)
 
 -- the constant is the name of a global
 abbrev pub is_name : ConstShape → Bool

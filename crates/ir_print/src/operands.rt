@@ -175,13 +175,13 @@ pub fn push_more_target(names: &Names, id: NameId, to: &mut Vec<u8>) -> Result<(
 pub fn push_operands(
     names: &Names,
     operands: &[TyVal],
-    is_behind: bool,
+    is_after: bool,
     to: &mut Vec<u8>,
 ) -> Result<(), AllocError>
     ensures { OnOk result (to.new.items ≡ to.old.items
-        ++ in_row is_behind (map typed_text (map (ty_val_shape names.now) operands.now))) }
+        ++ in_row is_after (map typed_text (map (ty_val_shape names.now) operands.now))) }
 {
-    let mut needs_comma = is_behind;
+    let mut needs_comma = is_after;
     for operand in operands {
         push_comma(to, needs_comma)?;
         push_typed(names, operand, to)?;

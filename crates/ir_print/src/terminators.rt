@@ -42,10 +42,10 @@ pub fn push_branch(
 }
 
 /// Appends a blank, where something stands before it.
-fn push_blank(to: &mut Vec<u8>, is_behind: bool) -> Result<(), AllocError>
-    ensures { OnOk result (to.new.items ≡ to.old.items ++ blank is_behind) }
+fn push_blank(to: &mut Vec<u8>, is_after: bool) -> Result<(), AllocError>
+    ensures { OnOk result (to.new.items ≡ to.old.items ++ blank is_after) }
 {
-    to.extend_from_slice(if is_behind { b" " } else { b"" })
+    to.extend_from_slice(if is_after { b" " } else { b"" })
 }
 
 /// Appends a case of a `switch`.

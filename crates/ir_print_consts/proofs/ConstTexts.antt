@@ -4,7 +4,7 @@ use Rattle.std.specs.Prelude.{◌||◌, ◌&&◌}
 use Rattle.std.specs.declared.alloc.Global.{Global}
 use Rattle.ir_lex.specs.Symbols.{Symbol, KeywordSymbol, LocalSymbol, GlobalSymbol, NumberSymbol, TextSymbol, MarkSymbol}
 use Rattle.ir_words.specs.declared.words.Keyword.TheVariants.{Integer, Ptr, Void, X, True, False, Null, Undef, Poison, ZeroInitializer, GetElementPtr}
-use Rattle.ir_print_symbols.specs.Printed.{text_of_symbol, is_opening, is_closing, is_global, is_mark, touches, joined, joined_behind, last_of}
+use Rattle.ir_print_symbols.specs.Printed.{text_of_symbol, is_opening, is_closing, is_global, is_mark, touches, joined, joined_after, last_of}
 use Rattle.ir_print_symbols.proofs.Joining.{joined-append}
 use Rattle.ir_tree.specs.NameTable.{text_of}
 use Rattle.ir_tree.specs.Shape.{TyShape, integer, pointer, void, array, structure, named, ConstShape, number, boolean, null, undef, poison, zero_value, text, elements, fields, global, address, TypedShape, typed, typed_row}
@@ -142,14 +142,14 @@ fields_text vs packed =
 
 -- the indices, each after a comma, and `)`
 indices_text : (vs : List TypedShape) (a : Symbol)
-    → joined_behind a (typed_more_spelling (typed_row vs) ++ MarkSymbol 41 ∷ []) ≡ in_row true (map (λ v. joined (typed_spelling v)) vs) ++ 41 ∷ []
+    → joined_after a (typed_more_spelling (typed_row vs) ++ MarkSymbol 41 ∷ []) ≡ in_row true (map (λ v. joined (typed_spelling v)) vs) ++ 41 ∷ []
 indices_text vs a =
-    ap (λ z. joined_behind a (z ++ MarkSymbol 41 ∷ [])) (typed_more vs)
+    ap (λ z. joined_after a (z ++ MarkSymbol 41 ∷ [])) (typed_more vs)
     ∙ commas_text typed_spelling typed_starts (MarkSymbol 41 ∷ []) (41 ∷ []) (λ b. closing_text b 41 [] refl) vs a
 
 -- the pointer and the indices, and `)`
 base_text : (base : TypedShape) (vs : List TypedShape)
-    → joined_behind (MarkSymbol 44) (typed_spelling base ++ (typed_more_spelling (typed_row vs) ++ MarkSymbol 41 ∷ []))
+    → joined_after (MarkSymbol 44) (typed_spelling base ++ (typed_more_spelling (typed_row vs) ++ MarkSymbol 41 ∷ []))
     ≡ 32 ∷ (joined (typed_spelling base) ++ (in_row true (map (λ v. joined (typed_spelling v)) vs) ++ 41 ∷ []))
 base_text base vs = comma_text (typed_spelling base) (typed_more_spelling (typed_row vs) ++ MarkSymbol 41 ∷ []) (typed_starts base) _ (indices_text vs)
 

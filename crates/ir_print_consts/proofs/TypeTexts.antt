@@ -2,7 +2,7 @@
 use Rattle.std.proofs.Common.{◌≡◌, ℕ, Bool, true, false, List, [], ◌∷◌, ◌++◌, map, refl, sym, ap, ◌∙◌, append-nil, pos, Vec, Box}
 use Rattle.ir_lex.specs.Symbols.{Symbol, KeywordSymbol, LocalSymbol, NumberSymbol, MarkSymbol}
 use Rattle.ir_words.specs.declared.words.Keyword.TheVariants.{Integer, Ptr, Void, X}
-use Rattle.ir_print_symbols.specs.Printed.{text_of_symbol, touches, joined, joined_behind}
+use Rattle.ir_print_symbols.specs.Printed.{text_of_symbol, touches, joined, joined_after}
 use Rattle.ir_tree.specs.Shape.{TyShape, integer, pointer, void, array, structure, named, ty_row}
 use Rattle.ir_tree.specs.NameTable.{text_of}
 use Rattle.ir_tree.specs.ShapeOf.{ty_shape, ty_step}
@@ -45,7 +45,7 @@ pub named_text : (name : List ℕ) → joined (ty_spelling (named name)) ≡ tex
 unfolding ty_spelling ty_list_spelling ty_more_spelling
 named_text name = append-nil (text_of_symbol (LocalSymbol name))
 
-times_text : (row : List Symbol) → Starts row → joined_behind (KeywordSymbol X) (row ++ MarkSymbol 93 ∷ []) ≡ 32 ∷ (joined row ++ 93 ∷ [])
+times_text : (row : List Symbol) → Starts row → joined_after (KeywordSymbol X) (row ++ MarkSymbol 93 ∷ []) ≡ 32 ∷ (joined row ++ 93 ∷ [])
 times_text row starts =
     let t : touches (KeywordSymbol X) starts.first ≡ false = rw starts.apart refl in
     rw starts.is

@@ -86,12 +86,12 @@ fn push_typed(names: &Names, typed: &Typed, to: &mut Vec<u8>) -> Result<(), Allo
 fn push_row(
     names: &Names,
     row: &[Typed],
-    is_behind: bool,
+    is_after: bool,
     to: &mut Vec<u8>,
 ) -> Result<(), AllocError>
-    ensures { OnOk result (to.new.items ≡ to.old.items ++ in_row is_behind (map (typed_text names.now) row.now)) }
+    ensures { OnOk result (to.new.items ≡ to.old.items ++ in_row is_after (map (typed_text names.now) row.now)) }
 {
-    let mut needs_comma = is_behind;
+    let mut needs_comma = is_after;
     for typed in row {
         push_comma(to, needs_comma)?;
         push_typed(names, typed, to)?;

@@ -56,13 +56,13 @@ pub fn printed_constants_are_read_back()
 /// from some token on the spelling is printable, so it is spelled by its printed form, whatever printable
 /// symbols follow, and the reader gives it again.
 pub fn read_types_are_read_back()
-    ensures printable { (text : List ℕ) (toks : List Token) (from : ℕ) (t : TyShape) (behind : List Symbol) → AreBytes text →
-        Reads ty (drop from (symbols_of text toks)) (Got t behind) → ArePrintable (ty_spelling t) }
-    ensures spelled { (text : List ℕ) (toks : List Token) (from : ℕ) (t : TyShape) (behind rest : List Symbol) → AreBytes text →
-        Reads ty (drop from (symbols_of text toks)) (Got t behind) → ArePrintable rest →
+    ensures printable { (text : List ℕ) (toks : List Token) (from : ℕ) (t : TyShape) (after : List Symbol) → AreBytes text →
+        Reads ty (drop from (symbols_of text toks)) (Got t after) → ArePrintable (ty_spelling t) }
+    ensures spelled { (text : List ℕ) (toks : List Token) (from : ℕ) (t : TyShape) (after rest : List Symbol) → AreBytes text →
+        Reads ty (drop from (symbols_of text toks)) (Got t after) → ArePrintable rest →
         Spells (joined (ty_spelling t ++ rest)) (ty_spelling t ++ rest) }
-    ensures back { (text : List ℕ) (toks : List Token) (from : ℕ) (t : TyShape) (behind rest : List Symbol) (again : List Token) → AreBytes text →
-        Reads ty (drop from (symbols_of text toks)) (Got t behind) → ArePrintable rest → AreTokens (joined (ty_spelling t ++ rest)) again →
+    ensures back { (text : List ℕ) (toks : List Token) (from : ℕ) (t : TyShape) (after rest : List Symbol) (again : List Token) → AreBytes text →
+        Reads ty (drop from (symbols_of text toks)) (Got t after) → ArePrintable rest → AreTokens (joined (ty_spelling t ++ rest)) again →
         run_ty (length (symbols_of (joined (ty_spelling t ++ rest)) again)) (symbols_of (joined (ty_spelling t ++ rest)) again) ≡ Got t rest }
 {}
 
@@ -70,12 +70,12 @@ pub fn read_types_are_read_back()
 /// spell from some token on the spelling is printable, so it is spelled by its printed form, whatever
 /// printable symbols follow, and the reader gives it again.
 pub fn read_constants_are_read_back()
-    ensures printable { (text : List ℕ) (toks : List Token) (from : ℕ) (c : ConstShape) (behind : List Symbol) → AreBytes text →
-        Reads const (drop from (symbols_of text toks)) (Got c behind) → ArePrintable (const_spelling c) }
-    ensures spelled { (text : List ℕ) (toks : List Token) (from : ℕ) (c : ConstShape) (behind rest : List Symbol) → AreBytes text →
-        Reads const (drop from (symbols_of text toks)) (Got c behind) → ArePrintable rest →
+    ensures printable { (text : List ℕ) (toks : List Token) (from : ℕ) (c : ConstShape) (after : List Symbol) → AreBytes text →
+        Reads const (drop from (symbols_of text toks)) (Got c after) → ArePrintable (const_spelling c) }
+    ensures spelled { (text : List ℕ) (toks : List Token) (from : ℕ) (c : ConstShape) (after rest : List Symbol) → AreBytes text →
+        Reads const (drop from (symbols_of text toks)) (Got c after) → ArePrintable rest →
         Spells (joined (const_spelling c ++ rest)) (const_spelling c ++ rest) }
-    ensures back { (text : List ℕ) (toks : List Token) (from : ℕ) (c : ConstShape) (behind rest : List Symbol) (again : List Token) → AreBytes text →
-        Reads const (drop from (symbols_of text toks)) (Got c behind) → ArePrintable rest → AreTokens (joined (const_spelling c ++ rest)) again →
+    ensures back { (text : List ℕ) (toks : List Token) (from : ℕ) (c : ConstShape) (after rest : List Symbol) (again : List Token) → AreBytes text →
+        Reads const (drop from (symbols_of text toks)) (Got c after) → ArePrintable rest → AreTokens (joined (const_spelling c ++ rest)) again →
         run_const (length (symbols_of (joined (const_spelling c ++ rest)) again)) (symbols_of (joined (const_spelling c ++ rest)) again) ≡ Got c rest }
 {}

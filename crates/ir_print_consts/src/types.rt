@@ -34,10 +34,10 @@ pub fn push_close_brace(to: &mut Vec<u8>, packed: bool) -> Result<(), AllocError
 }
 
 /// Appends a comma and a blank, where something stands before them.
-pub fn push_comma(to: &mut Vec<u8>, is_behind: bool) -> Result<(), AllocError>
-    ensures { OnOk result (to.new.items ≡ to.old.items ++ comma is_behind) }
+pub fn push_comma(to: &mut Vec<u8>, is_after: bool) -> Result<(), AllocError>
+    ensures { OnOk result (to.new.items ≡ to.old.items ++ comma is_after) }
 {
-    to.extend_from_slice(if is_behind { b", " } else { b"" })
+    to.extend_from_slice(if is_after { b", " } else { b"" })
 }
 
 /// Appends a type. Where memory runs out, a part of its text may have been appended.
@@ -92,12 +92,12 @@ fn push_struct(
 pub fn push_tys(
     names: &Names,
     tys: &[Ty],
-    is_behind: bool,
+    is_after: bool,
     to: &mut Vec<u8>,
 ) -> Result<(), AllocError>
-    ensures { OnOk result (to.new.items ≡ to.old.items ++ in_row is_behind (map (ty_text names.now) tys.now)) }
+    ensures { OnOk result (to.new.items ≡ to.old.items ++ in_row is_after (map (ty_text names.now) tys.now)) }
 {
-    let mut needs_comma = is_behind;
+    let mut needs_comma = is_after;
     for ty in tys {
         push_comma(to, needs_comma)?;
         push_ty(names, ty, to)?;

@@ -78,7 +78,7 @@ first_int text n h f i = rw (h.local, h.global, h.constant, h.label, h.string, f
 first_word : (text : List ℕ) (n : ℕ) → NameLike text → length_of Float text ≡ None → length_of Int text ≡ None → length_of Word text ≡ Some n → first_token text ≡ Some (Word, n)
 first_word text n h f i w = rw (h.local, h.global, h.constant, h.label, h.string, f, i, w) refl
 
--- a piece behind a byte that isn't there
+-- a piece after a byte that isn't there
 after_none : (c : ℕ) (piece : List ℕ → Option ℕ) (t : List ℕ) → begins_by (λ b. b == c) t ≡ false → after_byte c piece t ≡ None
 after_none c piece [] h = refl
 after_none c piece (b ∷ t) h = rw h refl
@@ -87,13 +87,13 @@ both_none : {A : Type 0} (b : Bool) → ◌≡◌ {A = Option A} (cond b None No
 both_none true = refl
 both_none false = refl
 
-begins_behind : (p : ℕ → Bool) (c : ℕ) (v r : List ℕ) → p c ≡ false → Passes p v → begins_by (λ b. b == c) r ≡ false → begins_by (λ b. b == c) (v ++ r) ≡ false
-begins_behind p c [] r e h s = s
-begins_behind p c (y ∷ v) r e h s = other_byte p y c h.0 e
+begins_after : (p : ℕ → Bool) (c : ℕ) (v r : List ℕ) → p c ≡ false → Passes p v → begins_by (λ b. b == c) r ≡ false → begins_by (λ b. b == c) (v ++ r) ≡ false
+begins_after p c [] r e h s = s
+begins_after p c (y ∷ v) r e h s = other_byte p y c h.0 e
 
--- a string behind a byte that no quote follows
-string_behind : (x : ℕ) (t : List ℕ) → begins_by (λ b. b == 34) t ≡ false → after_byte 99 string_len (x ∷ t) ≡ None
-string_behind x t h = rw (after_none 34 quoted_end_len t h) (both_none (x == 99))
+-- a string after a byte that no quote follows
+string_after : (x : ℕ) (t : List ℕ) → begins_by (λ b. b == 34) t ≡ false → after_byte 99 string_len (x ∷ t) ≡ None
+string_after x t h = rw (after_none 34 quoted_end_len t h) (both_none (x == 99))
 
 quote_is_no_name : is_name_byte 34 ≡ false
 unfolding is_name_byte
@@ -109,7 +109,7 @@ no_global x t h = after_none 64 name_len (x ∷ t) (other_byte is_name_byte x 64
 
 no_constant : (x : ℕ) (t : List ℕ) → begins_by (λ b. b == 34) t ≡ false → length_of CStr (x ∷ t) ≡ None
 unfolding length_of
-no_constant x t h = string_behind x t h
+no_constant x t h = string_after x t h
 
 no_string : (x : ℕ) (t : List ℕ) → is_name_byte x ≡ true → length_of Str (x ∷ t) ≡ None
 unfolding length_of
@@ -129,7 +129,7 @@ first-label [] r (inl h) = absurd h
 first-label [] r (inr h) = absurd h
 first-label (x ∷ v) r (inl h) =
     let t : List ℕ = v ++ (58 ∷ r) in
-    first_label (x ∷ t) _ (no_local x t h.0) (no_global x t h.0) (no_constant x t (begins_behind is_name_byte 34 v (58 ∷ r) quote_is_no_name h.1 refl)) (labelled (x ∷ v) (58 ∷ r) (inl h) colon_stops true refl)
+    first_label (x ∷ t) _ (no_local x t h.0) (no_global x t h.0) (no_constant x t (begins_after is_name_byte 34 v (58 ∷ r) quote_is_no_name h.1 refl)) (labelled (x ∷ v) (58 ∷ r) (inl h) colon_stops true refl)
 first-label (x ∷ v) r (inr h) =
     let t : List ℕ = (x ∷ v) ++ (58 ∷ r) in
     let apart : (c : ℕ) → (34 == c) ≡ false → begins_by (λ b. b == c) t ≡ false = λ c e. ap (λ b. b == c) h.0 ∙ e in
@@ -139,7 +139,7 @@ name_like : (x : ℕ) (v r : List ℕ) → IsRun is_name_byte (x ∷ v) → Sepa
 name_like x v r h s = record {
   local = no_local x _ h.0;
   global = no_global x _ h.0;
-  constant = no_constant x _ (begins_behind is_name_byte 34 v r quote_is_no_name h.1 (no_quote r s));
+  constant = no_constant x _ (begins_after is_name_byte 34 v r quote_is_no_name h.1 (no_quote r s));
   label = labelled (x ∷ v) r (inl h) (separates-stops r s) false (no_colon r s);
   string = no_string x _ h.0;
 }
@@ -209,7 +209,7 @@ no_fraction w r h s =
 no_hexadecimal : (x : ℕ) (v r : List ℕ) → Passes is_digit v → Separates r → hexadecimal_len (x ∷ (v ++ r)) ≡ None
 unfolding is_name_byte is_digit
 no_hexadecimal x v r h s =
-    rw (after_none 120 (run_len is_name_byte) (v ++ r) (begins_behind is_digit 120 v r refl h (begins_no_name 120 r refl s))) (both_none (x == 48))
+    rw (after_none 120 (run_len is_name_byte) (v ++ r) (begins_after is_digit 120 v r refl h (begins_no_name 120 r refl s))) (both_none (x == 48))
 
 no_float_digits : (x : ℕ) (v r : List ℕ) → Passes is_digit (x ∷ v) → Separates r → length_of Float ((x ∷ v) ++ r) ≡ None
 unfolding length_of

@@ -2,21 +2,21 @@
 use Rattle.std.proofs.Common.{◌≡◌, ℕ, List, [], ◌∷◌, ◌++◌, refl, sym, ap, ◌∙◌, subst, append_assoc, append-nil}
 use Rattle.ir_lex.specs.Bytes.{is_blank}
 use Rattle.ir_lex.specs.Symbols.{Symbol}
-use Rattle.ir_print_symbols.specs.Printed.{text_of_symbol, ArePrintable, joined, joined_behind, Spaced, laid_out, symbols_in, AreBlanks, AreApart, AreApartBehind, Line, text_of_lines, rows_of, AreIndented}
+use Rattle.ir_print_symbols.specs.Printed.{text_of_symbol, ArePrintable, joined, joined_after, Spaced, laid_out, symbols_in, AreBlanks, AreApart, AreApartBehind, Line, text_of_lines, rows_of, AreIndented}
 use Rattle.ir_print_symbols.specs.Spells.{Spells}
-use Rattle.ir_print_symbols.proofs.Walks.{laid_out_spells, spaced_behind, spaced_behind-joined, spaced_behind-symbols, spaced_behind-apart}
+use Rattle.ir_print_symbols.proofs.Walks.{laid_out_spells, spaced_after, spaced_after-joined, spaced_after-symbols, spaced_after-apart}
 
--- the symbols of a row and of what follows it, behind these blanks
+-- the symbols of a row and of what follows it, after these blanks
 abbrev spaced_row : List ℕ → List Symbol → (List ℕ → List Spaced) → List ℕ → List Spaced
 spaced_row gap [] more indent = more (gap ++ (indent ++ 10 ∷ []))
-spaced_row gap (s ∷ ss) more indent = record { gap = gap ++ indent; symbol = s } ∷ (spaced_behind s ss ++ more (10 ∷ []))
+spaced_row gap (s ∷ ss) more indent = record { gap = gap ++ indent; symbol = s } ∷ (spaced_after s ss ++ more (10 ∷ []))
 
--- the symbols of lines, each with the blanks before it, the first behind these
+-- the symbols of lines, each with the blanks before it, the first after these
 abbrev spaced_lines : List ℕ → List Line → List Spaced
 spaced_lines gap [] = []
 spaced_lines gap (l ∷ ls) = spaced_row gap l.row (λ g. spaced_lines g ls) l.indent
 
--- the blanks behind the last symbol of a row and of what follows it
+-- the blanks after the last symbol of a row and of what follows it
 abbrev last_row : List ℕ → List Symbol → (List ℕ → List ℕ) → List ℕ → List ℕ
 last_row gap [] more indent = more (gap ++ (indent ++ 10 ∷ []))
 last_row gap (s ∷ ss) more indent = more (10 ∷ [])
@@ -44,13 +44,13 @@ text_of_row gap [] more last rest indent k =
     k (gap ++ (indent ++ 10 ∷ [])) ∙ append_assoc gap (indent ++ 10 ∷ []) rest ∙ ap (λ t. gap ++ t) (append_assoc indent (10 ∷ []) rest)
 text_of_row gap (s ∷ ss) more last rest indent k =
     let w : List ℕ = text_of_symbol s in
-    let inner : laid_out (spaced_behind s ss ++ more (10 ∷ [])) ≡ joined_behind s ss ++ laid_out (more (10 ∷ [])) =
-    laid_out-append (spaced_behind s ss) (more (10 ∷ [])) ∙ ap (λ t. t ++ laid_out (more (10 ∷ []))) (spaced_behind-joined s ss) in
-    let ends : laid_out (spaced_behind s ss ++ more (10 ∷ [])) ++ last (10 ∷ []) ≡ joined_behind s ss ++ (10 ∷ rest) =
-    ap (λ t. t ++ last (10 ∷ [])) inner ∙ append_assoc (joined_behind s ss) (laid_out (more (10 ∷ []))) (last (10 ∷ [])) ∙ ap (λ t. joined_behind s ss ++ t) (k (10 ∷ [])) in
-    append_assoc (gap ++ indent) (w ++ laid_out (spaced_behind s ss ++ more (10 ∷ []))) (last (10 ∷ []))
-    ∙ append_assoc gap indent ((w ++ laid_out (spaced_behind s ss ++ more (10 ∷ []))) ++ last (10 ∷ []))
-    ∙ ap (λ t. gap ++ (indent ++ t)) (append_assoc w (laid_out (spaced_behind s ss ++ more (10 ∷ []))) (last (10 ∷ [])) ∙ ap (λ t. w ++ t) ends ∙ sym (append_assoc w (joined_behind s ss) (10 ∷ rest)))
+    let inner : laid_out (spaced_after s ss ++ more (10 ∷ [])) ≡ joined_after s ss ++ laid_out (more (10 ∷ [])) =
+    laid_out-append (spaced_after s ss) (more (10 ∷ [])) ∙ ap (λ t. t ++ laid_out (more (10 ∷ []))) (spaced_after-joined s ss) in
+    let ends : laid_out (spaced_after s ss ++ more (10 ∷ [])) ++ last (10 ∷ []) ≡ joined_after s ss ++ (10 ∷ rest) =
+    ap (λ t. t ++ last (10 ∷ [])) inner ∙ append_assoc (joined_after s ss) (laid_out (more (10 ∷ []))) (last (10 ∷ [])) ∙ ap (λ t. joined_after s ss ++ t) (k (10 ∷ [])) in
+    append_assoc (gap ++ indent) (w ++ laid_out (spaced_after s ss ++ more (10 ∷ []))) (last (10 ∷ []))
+    ∙ append_assoc gap indent ((w ++ laid_out (spaced_after s ss ++ more (10 ∷ []))) ++ last (10 ∷ []))
+    ∙ ap (λ t. gap ++ (indent ++ t)) (append_assoc w (laid_out (spaced_after s ss ++ more (10 ∷ []))) (last (10 ∷ [])) ∙ ap (λ t. w ++ t) ends ∙ sym (append_assoc w (joined_after s ss) (10 ∷ rest)))
 
 text_is : (gap : List ℕ) (ls : List Line) → laid_out (spaced_lines gap ls) ++ last_blanks gap ls ≡ gap ++ text_of_lines ls
 text_is gap [] = sym (append-nil gap)
@@ -60,7 +60,7 @@ symbols_of_row : (gap : List ℕ) (row : List Symbol) (more : List ℕ → List 
     → ((g : List ℕ) → symbols_in (more g) ≡ rest) → symbols_in (spaced_row gap row more indent) ≡ row ++ rest
 symbols_of_row gap [] more rest indent k = k (gap ++ (indent ++ 10 ∷ []))
 symbols_of_row gap (s ∷ ss) more rest indent k =
-    ap (λ t. s ∷ t) (symbols_in-append (spaced_behind s ss) (more (10 ∷ [])) ∙ ap (λ t. t ++ symbols_in (more (10 ∷ []))) (spaced_behind-symbols s ss) ∙ ap (λ t. ss ++ t) (k (10 ∷ [])))
+    ap (λ t. s ∷ t) (symbols_in-append (spaced_after s ss) (more (10 ∷ [])) ∙ ap (λ t. t ++ symbols_in (more (10 ∷ []))) (spaced_after-symbols s ss) ∙ ap (λ t. ss ++ t) (k (10 ∷ [])))
 
 symbols_are : (gap : List ℕ) (ls : List Line) → symbols_in (spaced_lines gap ls) ≡ rows_of ls
 symbols_are gap [] = refl
@@ -82,8 +82,8 @@ ends_some : (v : List ℕ) → v ++ 10 ∷ [] ≡ [] → ⊥
 ends_some [] e = cc
 ends_some (b ∷ v) e = cc
 
-behind_line : (gap indent : List ℕ) → AreBlanks gap → AreBlanks indent → AreSomeBlanks (gap ++ (indent ++ 10 ∷ []))
-behind_line gap indent h g = (
+after_line : (gap indent : List ℕ) → AreBlanks gap → AreBlanks indent → AreSomeBlanks (gap ++ (indent ++ 10 ∷ []))
+after_line gap indent h g = (
   blanks-append gap (indent ++ 10 ∷ []) h (blanks-append indent (10 ∷ []) g line_end),
   λ e. ends_some (gap ++ indent) (append_assoc gap indent (10 ∷ []) ∙ e),
 )
@@ -101,26 +101,26 @@ apart-append a (x ∷ xs) ys h k = (h.0, h.1, apart-append x.symbol xs ys h.2 k)
 
 apart_row : (a : Symbol) (gap : List ℕ) (row : List Symbol) (more : List ℕ → List Spaced) (indent : List ℕ) → AreSomeBlanks gap → AreBlanks indent
     → ((b : Symbol) (g : List ℕ) → AreSomeBlanks g → AreApartBehind b (more g)) → AreApartBehind a (spaced_row gap row more indent)
-apart_row a gap [] more indent h i k = k a (gap ++ (indent ++ 10 ∷ [])) (behind_line gap indent h.0 i)
+apart_row a gap [] more indent h i k = k a (gap ++ (indent ++ 10 ∷ [])) (after_line gap indent h.0 i)
 apart_row a gap (s ∷ ss) more indent h i k =
-    (blanks-append gap indent h.0 i, (λ e. absurd (left_some gap indent h.1 e)), apart-append s (spaced_behind s ss) (more (10 ∷ [])) (spaced_behind-apart s ss) (λ b. k b (10 ∷ []) feed))
+    (blanks-append gap indent h.0 i, (λ e. absurd (left_some gap indent h.1 e)), apart-append s (spaced_after s ss) (more (10 ∷ [])) (spaced_after-apart s ss) (λ b. k b (10 ∷ []) feed))
 
-apart_behind : (a : Symbol) (gap : List ℕ) (ls : List Line) → AreSomeBlanks gap → AreIndented ls → AreApartBehind a (spaced_lines gap ls)
-apart_behind a gap [] h i = tt
-apart_behind a gap (l ∷ ls) h i = apart_row a gap l.row (λ g. spaced_lines g ls) l.indent h i.0 (λ b g m. apart_behind b g ls m i.1)
+apart_after : (a : Symbol) (gap : List ℕ) (ls : List Line) → AreSomeBlanks gap → AreIndented ls → AreApartBehind a (spaced_lines gap ls)
+apart_after a gap [] h i = tt
+apart_after a gap (l ∷ ls) h i = apart_row a gap l.row (λ g. spaced_lines g ls) l.indent h i.0 (λ b g m. apart_after b g ls m i.1)
 
 apart_first : (gap : List ℕ) (row : List Symbol) (more : List ℕ → List Spaced) (indent : List ℕ) → AreBlanks gap → AreBlanks indent
     → ((g : List ℕ) → AreBlanks g → AreApart (more g)) → ((b : Symbol) (g : List ℕ) → AreSomeBlanks g → AreApartBehind b (more g)) → AreApart (spaced_row gap row more indent)
-apart_first gap [] more indent h i k m = k (gap ++ (indent ++ 10 ∷ [])) (behind_line gap indent h i).0
+apart_first gap [] more indent h i k m = k (gap ++ (indent ++ 10 ∷ [])) (after_line gap indent h i).0
 apart_first gap (s ∷ ss) more indent h i k m =
-    (blanks-append gap indent h i, apart-append s (spaced_behind s ss) (more (10 ∷ [])) (spaced_behind-apart s ss) (λ b. m b (10 ∷ []) feed))
+    (blanks-append gap indent h i, apart-append s (spaced_after s ss) (more (10 ∷ [])) (spaced_after-apart s ss) (λ b. m b (10 ∷ []) feed))
 
 apart : (gap : List ℕ) (ls : List Line) → AreBlanks gap → AreIndented ls → AreApart (spaced_lines gap ls)
 apart gap [] h i = tt
-apart gap (l ∷ ls) h i = apart_first gap l.row (λ g. spaced_lines g ls) l.indent h i.0 (λ g m. apart g ls m i.1) (λ b g m. apart_behind b g ls m i.1)
+apart gap (l ∷ ls) h i = apart_first gap l.row (λ g. spaced_lines g ls) l.indent h i.0 (λ g m. apart g ls m i.1) (λ b g m. apart_after b g ls m i.1)
 
 blanks_row : (gap : List ℕ) (row : List Symbol) (last : List ℕ → List ℕ) (indent : List ℕ) → AreBlanks gap → AreBlanks indent → ((g : List ℕ) → AreBlanks g → AreBlanks (last g)) → AreBlanks (last_row gap row last indent)
-blanks_row gap [] last indent h i k = k (gap ++ (indent ++ 10 ∷ [])) (behind_line gap indent h i).0
+blanks_row gap [] last indent h i k = k (gap ++ (indent ++ 10 ∷ [])) (after_line gap indent h i).0
 blanks_row gap (s ∷ ss) last indent h i k = k (10 ∷ []) line_end
 
 blanks_last : (gap : List ℕ) (ls : List Line) → AreBlanks gap → AreIndented ls → AreBlanks (last_blanks gap ls)

@@ -9,7 +9,7 @@ use Rattle.std.proofs.Math.Seq.{take-append_seam}
 use Rattle.ir_words.specs.Digits.{Passes}
 use Rattle.ir_lex.specs.Bytes.{is_name_byte, is_not_quote}
 use Rattle.ir_lex.specs.Spelling.{IsRun, IsName, IsString}
-use Rattle.ir_lex.specs.Meaning.{escape, unescaped, unescaped_behind, unquoted, is_hex, hex_value}
+use Rattle.ir_lex.specs.Meaning.{escape, unescaped, unescaped_after, unquoted, is_hex, hex_value}
 use Rattle.ir_print_symbols.specs.Printed.{stands_for_itself, escaped_byte, escaped, quoted, is_plain_name, printed_name, AreBytes}
 
 pub and_true : (a b : Bool) → (a && b) ≡ true → (a ≡ true) × (b ≡ true)
@@ -24,7 +24,7 @@ escape_plain b [] h = refl
 escape_plain b (c ∷ bs) h = rw h refl
 
 unescaped_plain : (b : ℕ) (bs : List ℕ) → (b == 92) ≡ false → unescaped (b ∷ bs) ≡ b ∷ unescaped bs
-unfolding unescaped_behind
+unfolding unescaped_after
 unescaped_plain b bs h = rw (escape_plain b bs h) refl
 
 escape_code : (h l : ℕ) (bs : List ℕ) → (h == 92) ≡ false → is_hex h ≡ true → is_hex l ≡ true → ◌≡◌ {A = ℕ × ℕ} (escape (92 ∷ h ∷ l ∷ bs)) (16 * hex_value h + hex_value l, 3)
@@ -32,7 +32,7 @@ unfolding escape
 escape_code h l bs a b c = rw (a, b, c) refl
 
 unescaped_code : (h l : ℕ) (bs : List ℕ) → (h == 92) ≡ false → is_hex h ≡ true → is_hex l ≡ true → unescaped (92 ∷ h ∷ l ∷ bs) ≡ (16 * hex_value h + hex_value l) ∷ unescaped bs
-unfolding unescaped_behind
+unfolding unescaped_after
 unescaped_code h l bs a b c = rw (escape_code h l bs a b c) refl
 
 glyph_hex : (d : ℕ) → d < 16 → is_hex (digit_glyph true d) ≡ true
@@ -85,7 +85,7 @@ byte_back b bs h false e =
     unescaped_code (digit_glyph true (b / 16)) (digit_glyph true (b % 16)) bs (glyph_no_slash (b / 16) high) (glyph_hex (b / 16) high) (glyph_hex (b % 16) low) ∙ ap (λ x. x ∷ unescaped bs) sum
 
 nothing_left : unescaped [] ≡ []
-unfolding unescaped_behind
+unfolding unescaped_after
 nothing_left = refl
 
 -- bytes in quotes spell themselves

@@ -6,7 +6,7 @@ use Rattle.std.proofs.lemmas.Bool.Decides.{nat_tests}
 use Rattle.std.proofs.lemmas.List.{take-append-drop}
 use Rattle.ir_words.specs.Digits.{is_number}
 use Rattle.ir_lex.specs.Lengths.{begins_by}
-use Rattle.ir_lex.specs.Meaning.{spelling, is_hex, hex_value, hex_escape, escape, unescaped_behind, unescaped, unquoted}
+use Rattle.ir_lex.specs.Meaning.{spelling, is_hex, hex_value, hex_escape, escape, unescaped_after, unescaped, unquoted}
 use Rattle.ir_lex.specs.Symbols.{number_below, integer_value, number_symbol, mark_symbol, symbol_of, symbols_of}
 use Rattle.ir_lex.specs.declared.token.Token.{Token}
 use Rattle.ir_lex.specs.declared.token.Kind.{Kind}
@@ -75,11 +75,11 @@ escape_byte a [] h = h
 escape_byte a (b ∷ rest) h =
     byte_if (a == 92) (if b == 92 then (92, 2) else hex_escape b rest) (a, 1) (byte_if (b == 92) (92, 2) (hex_escape b rest) refl (hex_byte b rest)) h
 
-bytes_behind : (skip : ℕ) (w : List ℕ) → AreBytes w → AreBytes (unescaped_behind skip w)
-unfolding unescaped_behind
-bytes_behind skip [] h = tt
-bytes_behind zero (b ∷ bs) h = (escape_byte b bs h.0, bytes_behind ((escape (b ∷ bs)).1 - 1) bs h.1)
-bytes_behind (suc skip) (b ∷ bs) h = bytes_behind skip bs h.1
+bytes_after : (skip : ℕ) (w : List ℕ) → AreBytes w → AreBytes (unescaped_after skip w)
+unfolding unescaped_after
+bytes_after skip [] h = tt
+bytes_after zero (b ∷ bs) h = (escape_byte b bs h.0, bytes_after ((escape (b ∷ bs)).1 - 1) bs h.1)
+bytes_after (suc skip) (b ∷ bs) h = bytes_after skip bs h.1
 
 -- numbers
 
@@ -121,10 +121,10 @@ token_of : Kind → Token → Token
 token_of k t = record { kind = k; start = t.start; end = t.end; first = t.first }
 
 name_bytes : (w : List ℕ) → AreBytes w → AreBytes (unescaped (unquoted (drop 1 w)))
-name_bytes w h = bytes_behind 0 (unquoted (drop 1 w)) (bytes_unquoted (drop 1 w) (bytes_drop 1 w h))
+name_bytes w h = bytes_after 0 (unquoted (drop 1 w)) (bytes_unquoted (drop 1 w) (bytes_drop 1 w h))
 
 label_bytes : (w : List ℕ) → AreBytes w → AreBytes (unescaped (unquoted (take (length w - 1) w)))
-label_bytes w h = bytes_behind 0 (unquoted (take (length w - 1) w)) (bytes_unquoted (take (length w - 1) w) (bytes_take (length w - 1) w h))
+label_bytes w h = bytes_after 0 (unquoted (take (length w - 1) w)) (bytes_unquoted (take (length w - 1) w) (bytes_take (length w - 1) w h))
 
 token_readable : (text : List ℕ) (t : Token) (k : Kind) → AreBytes text → IsReadable (symbol_of text (token_of k t))
 unfolding token_of

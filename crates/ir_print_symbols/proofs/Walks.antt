@@ -14,7 +14,7 @@ use Rattle.ir_lex.specs.Symbols.{Symbol, KeywordSymbol, LocalSymbol, GlobalSymbo
 use Rattle.ir_lex.specs.declared.token.Token.{Token}
 use Rattle.ir_lex.specs.declared.token.Kind.{Kind}
 use Rattle.ir_lex.proofs.Unique.{one_token_list}
-use Rattle.ir_print_symbols.specs.Printed.{text_of_symbol, text_of_keyword, printed_name, IsPrintable, ArePrintable, touches, between, joined, joined_behind, Spaced, laid_out, symbols_in, AreBlanks, AreApart, AreApartBehind}
+use Rattle.ir_print_symbols.specs.Printed.{text_of_symbol, text_of_keyword, printed_name, IsPrintable, ArePrintable, touches, between, joined, joined_after, Spaced, laid_out, symbols_in, AreBlanks, AreApart, AreApartBehind}
 use Rattle.ir_print_symbols.specs.Spells.{Spells}
 use Rattle.ir_print_symbols.proofs.Firsts.{Separates}
 use Rattle.ir_print_symbols.proofs.Names.{and_true, printed_is_name}
@@ -165,9 +165,9 @@ walk_blanks whole before at fresh (b ∷ gap) text ss e l h k =
     walk_blank whole at fresh b (gap ++ text) ss h.0
     (walk_blanks whole (before ++ b ∷ []) (at + 1) (fresh || (b == 10)) gap text ss (e ∙ sym (append_assoc before (b ∷ []) (gap ++ text))) (simp length-append (omega arith)) h.1 k)
 
-behind_apart : (a : Symbol) (xs : List Spaced) → AreApartBehind a xs → AreApart xs
-behind_apart a [] h = tt
-behind_apart a (x ∷ xs) h = (h.0, h.2)
+after_apart : (a : Symbol) (xs : List Spaced) → AreApartBehind a xs → AreApart xs
+after_apart a [] h = tt
+after_apart a (x ∷ xs) h = (h.0, h.2)
 
 walk_all : (whole before : List ℕ) (at : ℕ) (fresh : Bool) (xs : List Spaced) (tail : List ℕ) → whole ≡ before ++ (laid_out xs ++ tail) → at ≡ length before
     → ArePrintable (symbols_in xs) → AreApart xs → AreBlanks tail → Walk whole at fresh (laid_out xs ++ tail) (symbols_in xs)
@@ -183,7 +183,7 @@ walk_all whole before at fresh (x ∷ xs) tail e l p a t =
     let one : (front : List ℕ) (there : ℕ) (new : Bool) → whole ≡ front ++ (w ++ r) → there ≡ length front → Walk whole there new (w ++ r) (x.symbol ∷ symbols_in xs) =
     λ front there new f m. subst (λ s. Walk whole there new (w ++ r) (s ∷ symbols_in xs)) (printed_back x.symbol p.0)
     (walk_token whole front there new (kind_of x.symbol) w r (symbols_in xs) f m (no_gap x.symbol r p.0) (printed_is_token x.symbol r p.0 (laid_before x.symbol xs tail a.1 t))
-    (walk_all whole (front ++ w) (there + length w) false xs tail (f ∙ sym (append_assoc front w r)) (long front there m) p.1 (behind_apart x.symbol xs a.1) t)) in
+    (walk_all whole (front ++ w) (there + length w) false xs tail (f ∙ sym (append_assoc front w r)) (long front there m) p.1 (after_apart x.symbol xs a.1) t)) in
     subst (λ y. Walk whole at fresh y (x.symbol ∷ symbols_in xs)) (sym parts)
     (walk_blanks whole before at fresh x.gap (w ++ r) (x.symbol ∷ symbols_in xs) (e ∙ ap (λ y. before ++ y) parts) l a.0 one)
 
@@ -194,29 +194,29 @@ laid_out_spells xs tail p a t =
     (walk.toks, (walk.left, walk.path), walk.means)
 
 -- symbols in a row, each with what stands before it
-abbrev pub spaced_behind : Symbol → List Symbol → List Spaced
-spaced_behind a [] = []
-spaced_behind a (s ∷ ss) = record { gap = between a s; symbol = s } ∷ spaced_behind s ss
+abbrev pub spaced_after : Symbol → List Symbol → List Spaced
+spaced_after a [] = []
+spaced_after a (s ∷ ss) = record { gap = between a s; symbol = s } ∷ spaced_after s ss
 
 abbrev spaced : List Symbol → List Spaced
 spaced [] = []
-spaced (s ∷ ss) = record { gap = []; symbol = s } ∷ spaced_behind s ss
+spaced (s ∷ ss) = record { gap = []; symbol = s } ∷ spaced_after s ss
 
-pub spaced_behind-joined : (a : Symbol) (ss : List Symbol) → laid_out (spaced_behind a ss) ≡ joined_behind a ss
-spaced_behind-joined a [] = refl
-spaced_behind-joined a (s ∷ ss) = ap (λ t. between a s ++ (text_of_symbol s ++ t)) (spaced_behind-joined s ss)
+pub spaced_after-joined : (a : Symbol) (ss : List Symbol) → laid_out (spaced_after a ss) ≡ joined_after a ss
+spaced_after-joined a [] = refl
+spaced_after-joined a (s ∷ ss) = ap (λ t. between a s ++ (text_of_symbol s ++ t)) (spaced_after-joined s ss)
 
 spaced-joined : (ss : List Symbol) → laid_out (spaced ss) ≡ joined ss
 spaced-joined [] = refl
-spaced-joined (s ∷ ss) = ap (λ t. text_of_symbol s ++ t) (spaced_behind-joined s ss)
+spaced-joined (s ∷ ss) = ap (λ t. text_of_symbol s ++ t) (spaced_after-joined s ss)
 
-pub spaced_behind-symbols : (a : Symbol) (ss : List Symbol) → symbols_in (spaced_behind a ss) ≡ ss
-spaced_behind-symbols a [] = refl
-spaced_behind-symbols a (s ∷ ss) = ap (λ t. s ∷ t) (spaced_behind-symbols s ss)
+pub spaced_after-symbols : (a : Symbol) (ss : List Symbol) → symbols_in (spaced_after a ss) ≡ ss
+spaced_after-symbols a [] = refl
+spaced_after-symbols a (s ∷ ss) = ap (λ t. s ∷ t) (spaced_after-symbols s ss)
 
 spaced-symbols : (ss : List Symbol) → symbols_in (spaced ss) ≡ ss
 spaced-symbols [] = refl
-spaced-symbols (s ∷ ss) = ap (λ t. s ∷ t) (spaced_behind-symbols s ss)
+spaced-symbols (s ∷ ss) = ap (λ t. s ∷ t) (spaced_after-symbols s ss)
 
 gap_blanks : (t : Bool) → AreBlanks (cond t [] (32 ∷ []))
 unfolding is_blank
@@ -227,13 +227,13 @@ gap_none : (t : Bool) → ◌≡◌ {A = List ℕ} (cond t [] (32 ∷ [])) [] �
 gap_none true e = refl
 gap_none false e = absurd (cc)
 
-pub spaced_behind-apart : (a : Symbol) (ss : List Symbol) → AreApartBehind a (spaced_behind a ss)
-spaced_behind-apart a [] = tt
-spaced_behind-apart a (s ∷ ss) = (gap_blanks (touches a s), gap_none (touches a s), spaced_behind-apart s ss)
+pub spaced_after-apart : (a : Symbol) (ss : List Symbol) → AreApartBehind a (spaced_after a ss)
+spaced_after-apart a [] = tt
+spaced_after-apart a (s ∷ ss) = (gap_blanks (touches a s), gap_none (touches a s), spaced_after-apart s ss)
 
 spaced-apart : (ss : List Symbol) → AreApart (spaced ss)
 spaced-apart [] = tt
-spaced-apart (s ∷ ss) = (tt, spaced_behind-apart s ss)
+spaced-apart (s ∷ ss) = (tt, spaced_after-apart s ss)
 
 -- symbols in a row are the tokens of their text
 pub joined_spells : (ss : List Symbol) → ArePrintable ss → Spells (joined ss) ss

@@ -8,7 +8,8 @@ use Rattle.std.proofs.lemmas.Bool.{eq-eqb}
 use Rattle.std.proofs.lemmas.Bool.Decides.{nat_tests}
 use Rattle.std.proofs.lemmas.Fmt.{decimal_is_IsNumeral_wide, decimal_digit, decimal_step_wide}
 use Rattle.ir_words.specs.Digits.{is_digit, is_number, Passes}
-use Rattle.ir_words.specs.Words.{keyword_of, language_word, dropped_word, outside_word, listed, has_leading_zero, is_width}
+use Rattle.ir_words.specs.Lists.{language_keywords, dropped_words, outside_words}
+use Rattle.ir_words.specs.Words.{keyword_of, language_word, dropped_word, outside_word, spelled_by, listed, is_among, has_leading_zero, is_width}
 use Rattle.ir_words.specs.declared.words.Keyword.{Keyword}
 use Rattle.ir_words.specs.declared.words.Keyword.TheVariants.{HeaderLine, Align, Comdat, Group, Tail, Quiet, Integer, Outside, Other}
 use Rattle.ir_lex.specs.Bytes.{is_name_byte, is_word_start}
@@ -114,7 +115,7 @@ keyword_is_word k h = refl
 
 -- a keyword's word stands for it
 pub keyword_back : (k : Keyword) → HasWord k → keyword_of (text_of_keyword k) ≡ k
-unfolding keyword_of language_word dropped_word outside_word listed is_digit
+unfolding keyword_of language_word dropped_word outside_word spelled_by listed is_among language_keywords dropped_words outside_words is_digit
 keyword_back (Integer n) h = integer_word n h.0 h.1
 keyword_back HeaderLine h = absurd h
 keyword_back Align h = absurd h

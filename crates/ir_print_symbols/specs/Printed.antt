@@ -3,81 +3,11 @@ use Rattle.std.specs.Prelude.{◌≡◌, ℕ, ℤ, pos, negsuc, Bool, true, fals
 use Rattle.std.specs.List.{list_all}
 use Rattle.std.specs.Fmt.{decimal, signed_decimal, digit_glyph}
 use Rattle.ir_words.specs.Digits.{Passes}
+use Rattle.ir_words.specs.Lists.{keyword_head}
 use Rattle.ir_words.specs.declared.words.Keyword.{Keyword}
-use Rattle.ir_words.specs.declared.words.Keyword.TheVariants.{HeaderLine, Declare, Call, Align, Comdat, Group, Tail, Quiet, Integer, «Type», Global, Constant, Define, X, Void, Ptr, Phi, Add, Sub, Mul, Shl, Udiv, Sdiv, Lshr, Ashr, Urem, Srem, And, Or, Xor, Nuw, Nsw, Exact, InBounds, Icmp, Select, Zext, Sext, Trunc, To, Freeze, Alloca, Load, Store, GetElementPtr, Br, Label, Switch, Ret, Unreachable, Eq, Ne, Ugt, Uge, Ult, Ule, Sgt, Sge, Slt, Sle, True, False, Null, Undef, Poison, ZeroInitializer, Outside, Other}
+use Rattle.ir_words.specs.declared.words.Keyword.TheVariants.{HeaderLine, Align, Comdat, Group, Tail, Quiet, Integer, Outside, Other}
 use Rattle.ir_lex.specs.Bytes.{is_name_byte, is_punct, is_blank}
 use Rattle.ir_lex.specs.Symbols.{Symbol, KeywordSymbol, LocalSymbol, GlobalSymbol, LabelSymbol, NumberSymbol, TextSymbol, MarkSymbol, OtherSymbol}
-
--- the word that stands for a keyword, of an integer type what stands before its width; none where many words stand for it, or where it is not of the language
-abbrev pub keyword_head : Keyword → List ℕ
-keyword_head Declare = codes "declare"
-keyword_head Call = codes "call"
-keyword_head (Integer width) = codes "i"
-keyword_head «Type» = codes "type"
-keyword_head Global = codes "global"
-keyword_head Constant = codes "constant"
-keyword_head Define = codes "define"
-keyword_head X = codes "x"
-keyword_head Void = codes "void"
-keyword_head Ptr = codes "ptr"
-keyword_head Phi = codes "phi"
-keyword_head Add = codes "add"
-keyword_head Sub = codes "sub"
-keyword_head Mul = codes "mul"
-keyword_head Shl = codes "shl"
-keyword_head Udiv = codes "udiv"
-keyword_head Sdiv = codes "sdiv"
-keyword_head Lshr = codes "lshr"
-keyword_head Ashr = codes "ashr"
-keyword_head Urem = codes "urem"
-keyword_head Srem = codes "srem"
-keyword_head And = codes "and"
-keyword_head Or = codes "or"
-keyword_head Xor = codes "xor"
-keyword_head Nuw = codes "nuw"
-keyword_head Nsw = codes "nsw"
-keyword_head Exact = codes "exact"
-keyword_head InBounds = codes "inbounds"
-keyword_head Icmp = codes "icmp"
-keyword_head Select = codes "select"
-keyword_head Zext = codes "zext"
-keyword_head Sext = codes "sext"
-keyword_head Trunc = codes "trunc"
-keyword_head To = codes "to"
-keyword_head Freeze = codes "freeze"
-keyword_head Alloca = codes "alloca"
-keyword_head Load = codes "load"
-keyword_head Store = codes "store"
-keyword_head GetElementPtr = codes "getelementptr"
-keyword_head Br = codes "br"
-keyword_head Label = codes "label"
-keyword_head Switch = codes "switch"
-keyword_head Ret = codes "ret"
-keyword_head Unreachable = codes "unreachable"
-keyword_head Eq = codes "eq"
-keyword_head Ne = codes "ne"
-keyword_head Ugt = codes "ugt"
-keyword_head Uge = codes "uge"
-keyword_head Ult = codes "ult"
-keyword_head Ule = codes "ule"
-keyword_head Sgt = codes "sgt"
-keyword_head Sge = codes "sge"
-keyword_head Slt = codes "slt"
-keyword_head Sle = codes "sle"
-keyword_head True = codes "true"
-keyword_head False = codes "false"
-keyword_head Null = codes "null"
-keyword_head Undef = codes "undef"
-keyword_head Poison = codes "poison"
-keyword_head ZeroInitializer = codes "zeroinitializer"
-keyword_head HeaderLine = []
-keyword_head Align = []
-keyword_head Comdat = []
-keyword_head Group = []
-keyword_head Tail = []
-keyword_head Quiet = []
-keyword_head Outside = []
-keyword_head Other = []
 
 -- the width of an integer type, in digits
 abbrev pub keyword_width : Keyword → List ℕ
@@ -187,14 +117,14 @@ abbrev pub between : Symbol → Symbol → List ℕ
 between a b = if touches a b then [] else 32 ∷ []
 
 -- the printed form of symbols that follow one, with what stands before each
-abbrev pub joined_behind : Symbol → List Symbol → List ℕ
-joined_behind a [] = []
-joined_behind a (s ∷ ss) = between a s ++ (text_of_symbol s ++ joined_behind s ss)
+abbrev pub joined_after : Symbol → List Symbol → List ℕ
+joined_after a [] = []
+joined_after a (s ∷ ss) = between a s ++ (text_of_symbol s ++ joined_after s ss)
 
 -- the printed form of symbols in a row
 abbrev pub joined : List Symbol → List ℕ
 joined [] = []
-joined (s ∷ ss) = text_of_symbol s ++ joined_behind s ss
+joined (s ∷ ss) = text_of_symbol s ++ joined_after s ss
 
 -- the last symbol of a row that follows one
 abbrev pub last_of : Symbol → List Symbol → Symbol
@@ -206,7 +136,7 @@ pub record Spaced : Type 0 where
   pub gap : List ℕ
   pub symbol : Symbol
 
--- the text of symbols that are laid out on lines, each behind its blanks
+-- the text of symbols that are laid out on lines, each after its blanks
 abbrev pub laid_out : List Spaced → List ℕ
 laid_out [] = []
 laid_out (x ∷ xs) = x.gap ++ (text_of_symbol x.symbol ++ laid_out xs)

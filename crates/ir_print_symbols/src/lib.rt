@@ -14,8 +14,8 @@ pub use pieces::{
     push_global, push_keyword, push_label, push_local, push_mark, push_number, push_text,
 };
 
-/// Printed symbols are read as they were, in a row, with any blanks between them, and line by line: whatever
-/// the tokens of such a text are, they mean these symbols.
+/// Proves that printed symbols are read as they were, in a row, with any blanks between them, and line
+/// by line: whatever the tokens of such a text are, they mean these symbols.
 pub fn printed_symbols_are_read()
     ensures in_a_row { (ss : List Symbol) → ArePrintable ss → Spells (joined ss) ss }
     ensures with_blanks { (xs : List Spaced) (tail : List ℕ) → ArePrintable (symbols_in xs) → AreApart xs → AreBlanks tail → Spells (laid_out xs ++ tail) (symbols_in xs) }

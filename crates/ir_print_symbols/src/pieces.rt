@@ -5,13 +5,14 @@ ghost use Rattle.std.specs.List.{list_all};
 ghost use Rattle.std.specs.Fmt.{digit_glyph};
 ghost use Rattle.ir_lex.specs.Bytes.{is_name_byte};
 ghost use Rattle.ir_lex.specs.Symbols.{Symbol, KeywordSymbol, LocalSymbol, GlobalSymbol, LabelSymbol, NumberSymbol, TextSymbol, MarkSymbol};
-ghost use Rattle.ir_print_symbols.specs.Printed.{keyword_head, keyword_width, stands_for_itself, escaped_byte, escaped, quoted, is_plain_name, printed_name, text_of_symbol};
+ghost use Rattle.ir_print_symbols.specs.Printed.{keyword_width, stands_for_itself, escaped_byte, escaped, quoted, is_plain_name, printed_name, text_of_symbol};
 
 use ir_lex::{Keyword, is_name_byte};
+use ir_words::keyword_head;
 use itoa::Buffer;
 use std::alloc::AllocError;
 
-/// Whether the byte stands for itself in quotes: from 0x20 to 0x7e, but neither `"` nor `\`.
+/// Tells whether the byte stands for itself in quotes: from 0x20 to 0x7e, but neither `"` nor `\`.
 #[tactic(auto, unfolding(crate::specs::Printed::stands_for_itself))]
 fn stands_for_itself(byte: u8) -> bool
     ensures { result ≡ stands_for_itself byte }
@@ -19,7 +20,7 @@ fn stands_for_itself(byte: u8) -> bool
     byte > 31 && byte < 127 && byte != b'"' && byte != b'\\'
 }
 
-/// The upper-case hexadecimal digit of a number below 16.
+/// Returns the upper-case hexadecimal digit of a number below 16.
 fn hex_digit(number: u8) -> u8
     requires { number < 16 }
     ensures { result ≡ digit_glyph true number }
@@ -64,14 +65,14 @@ fn push_quoted(to: &mut Vec<u8>, bytes: &[u8]) -> Result<(), AllocError>
     Ok(())
 }
 
-/// Whether each byte is one of names.
+/// Tells whether each byte is one of names.
 fn are_name_bytes(bytes: &[u8]) -> bool
     ensures { result ≡ list_all is_name_byte bytes.now }
 {
     bytes.iter().all(|byte| is_name_byte(*byte))
 }
 
-/// Whether a name is bytes of names alone, at least one.
+/// Tells whether a name is bytes of names alone, at least one.
 fn is_plain_name(name: &[u8]) -> bool
     ensures { result ≡ is_plain_name name.now }
 {
@@ -93,7 +94,7 @@ fn push_name(to: &mut Vec<u8>, name: &[u8]) -> Result<(), AllocError>
     Ok(())
 }
 
-/// Appends a local: its name behind `%`.
+/// Appends a local: its name after `%`.
 pub fn push_local(to: &mut Vec<u8>, name: &[u8]) -> Result<(), AllocError>
     ensures { OnOk result (to.new.items ≡ to.old.items ++ text_of_symbol (LocalSymbol name.now)) }
 {
@@ -102,7 +103,7 @@ pub fn push_local(to: &mut Vec<u8>, name: &[u8]) -> Result<(), AllocError>
     Ok(())
 }
 
-/// Appends a global: its name behind `@`.
+/// Appends a global: its name after `@`.
 pub fn push_global(to: &mut Vec<u8>, name: &[u8]) -> Result<(), AllocError>
     ensures { OnOk result (to.new.items ≡ to.old.items ++ text_of_symbol (GlobalSymbol name.now)) }
 {
@@ -120,7 +121,7 @@ pub fn push_label(to: &mut Vec<u8>, name: &[u8]) -> Result<(), AllocError>
     Ok(())
 }
 
-/// Appends the bytes of a constant: in quotes, behind `c`.
+/// Appends the bytes of a constant: in quotes, after `c`.
 pub fn push_text(to: &mut Vec<u8>, bytes: &[u8]) -> Result<(), AllocError>
     ensures { OnOk result (to.new.items ≡ to.old.items ++ text_of_symbol (TextSymbol bytes.now)) }
 {
@@ -144,83 +145,6 @@ pub fn push_mark(to: &mut Vec<u8>, mark: u8) -> Result<(), AllocError>
 {
     to.push(mark)?;
     Ok(())
-}
-
-/// The word of a keyword, of an integer type what stands before its width; none where many words stand for
-/// it, or where it is not of the language.
-fn keyword_head(keyword: Keyword) -> &'static [u8]
-    ensures { result.now ≡ keyword_head keyword }
-{
-    match keyword {
-        Keyword::Integer(_) => b"i",
-        Keyword::Declare => b"declare",
-        Keyword::Call => b"call",
-        Keyword::Type => b"type",
-        Keyword::Global => b"global",
-        Keyword::Constant => b"constant",
-        Keyword::Define => b"define",
-        Keyword::X => b"x",
-        Keyword::Void => b"void",
-        Keyword::Ptr => b"ptr",
-        Keyword::Phi => b"phi",
-        Keyword::Add => b"add",
-        Keyword::Sub => b"sub",
-        Keyword::Mul => b"mul",
-        Keyword::Shl => b"shl",
-        Keyword::Udiv => b"udiv",
-        Keyword::Sdiv => b"sdiv",
-        Keyword::Lshr => b"lshr",
-        Keyword::Ashr => b"ashr",
-        Keyword::Urem => b"urem",
-        Keyword::Srem => b"srem",
-        Keyword::And => b"and",
-        Keyword::Or => b"or",
-        Keyword::Xor => b"xor",
-        Keyword::Nuw => b"nuw",
-        Keyword::Nsw => b"nsw",
-        Keyword::Exact => b"exact",
-        Keyword::InBounds => b"inbounds",
-        Keyword::Icmp => b"icmp",
-        Keyword::Select => b"select",
-        Keyword::Zext => b"zext",
-        Keyword::Sext => b"sext",
-        Keyword::Trunc => b"trunc",
-        Keyword::To => b"to",
-        Keyword::Freeze => b"freeze",
-        Keyword::Alloca => b"alloca",
-        Keyword::Load => b"load",
-        Keyword::Store => b"store",
-        Keyword::GetElementPtr => b"getelementptr",
-        Keyword::Br => b"br",
-        Keyword::Label => b"label",
-        Keyword::Switch => b"switch",
-        Keyword::Ret => b"ret",
-        Keyword::Unreachable => b"unreachable",
-        Keyword::Eq => b"eq",
-        Keyword::Ne => b"ne",
-        Keyword::Ugt => b"ugt",
-        Keyword::Uge => b"uge",
-        Keyword::Ult => b"ult",
-        Keyword::Ule => b"ule",
-        Keyword::Sgt => b"sgt",
-        Keyword::Sge => b"sge",
-        Keyword::Slt => b"slt",
-        Keyword::Sle => b"sle",
-        Keyword::True => b"true",
-        Keyword::False => b"false",
-        Keyword::Null => b"null",
-        Keyword::Undef => b"undef",
-        Keyword::Poison => b"poison",
-        Keyword::ZeroInitializer => b"zeroinitializer",
-        Keyword::HeaderLine
-        | Keyword::Align
-        | Keyword::Comdat
-        | Keyword::Group
-        | Keyword::Tail
-        | Keyword::Quiet
-        | Keyword::Outside
-        | Keyword::Other => b"",
-    }
 }
 
 /// Appends the width of an integer type.

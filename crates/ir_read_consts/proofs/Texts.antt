@@ -1,6 +1,6 @@
 -- The bytes of a string, by its symbol and by its spelling.
 use Rattle.std.proofs.Common.{◌≡◌, ℕ, ℤ, List, [], ◌∷◌, Option, None, Some, refl}
-use Rattle.ir_lex.specs.Meaning.{spelling, text_spelling, unescaped, unescaped_behind}
+use Rattle.ir_lex.specs.Meaning.{spelling, text_spelling, unescaped, unescaped_after}
 use Rattle.ir_lex.specs.Symbols.{symbol_of, text_in, number_symbol, mark_symbol, integer_value}
 use Rattle.ir_lex.specs.declared.token.Token.{Token}
 use Rattle.ir_lex.specs.declared.token.Kind.{Kind}
@@ -15,7 +15,7 @@ no_text_mark [] = refl
 no_text_mark (b ∷ w) = refl
 
 text_same_at : (text : List ℕ) (k : Kind) (t : Token) → t.kind ≡ k → text_in (symbol_of text t) ≡ unescaped (text_spelling text t)
-unfolding unescaped_behind spelling
+unfolding unescaped_after spelling
 text_same_at text Word t e = rw e refl
 text_same_at text Local t e = rw e refl
 text_same_at text Global t e = rw e refl

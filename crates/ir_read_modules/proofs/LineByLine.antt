@@ -54,11 +54,11 @@ bare_word : (more : Reader Symbol (List InstShape)) (o : Out Symbol BodyShape)
 bare_word more (Got body rest) = bare body (more rest)
 bare_word more (Wrong rest) = refl
 
-phi_behind : (result : Reader Symbol (List ℕ)) (phi inst : Reader Symbol BodyShape) (more others last : Reader Symbol (List InstShape)) (name : List ℕ) (q : List Symbol) (o : Out Symbol (List ℕ))
+phi_after : (result : Reader Symbol (List ℕ)) (phi inst : Reader Symbol BodyShape) (more others last : Reader Symbol (List InstShape)) (name : List ℕ) (q : List Symbol) (o : Out Symbol (List ℕ))
     → result (LocalSymbol name ∷ q) ≡ o → phi_by result (LocalSymbol name ∷ q) ≡ true
     → told_by result phi inst more others last (LocalSymbol name ∷ q) ≡ run_map cons (run_seq (line_by result phi) more) (LocalSymbol name ∷ q)
-phi_behind result phi inst more others last name q (Wrong rest) e h = rw e refl
-phi_behind result phi inst more others last name q (Got v rest) e h =
+phi_after result phi inst more others last name q (Wrong rest) e h = rw e refl
+phi_after result phi inst more others last name q (Got v rest) e h =
     let word : opens (heads phi_word) rest ≡ true = rw e at h in
     rw (e, word) (named_word v more (phi rest))
 
@@ -70,14 +70,14 @@ phi_first result phi inst more others last t q a b = rw (a, b) (bare_word more (
 phi_here : (result : Reader Symbol (List ℕ)) (phi inst : Reader Symbol BodyShape) (more others last : Reader Symbol (List InstShape)) (ts : List Symbol)
     → phi_by result ts ≡ true → told_by result phi inst more others last ts ≡ run_map cons (run_seq (line_by result phi) more) ts
 phi_here result phi inst more others last [] h = cc
-phi_here result phi inst more others last (LocalSymbol name ∷ q) h = phi_behind result phi inst more others last name q (result (LocalSymbol name ∷ q)) refl h
+phi_here result phi inst more others last (LocalSymbol name ∷ q) h = phi_after result phi inst more others last name q (result (LocalSymbol name ∷ q)) refl h
 phi_here result phi inst more others last (t ∷ q) h = phi_first result phi inst more others last t q refl h
 
-inst_behind : (result : Reader Symbol (List ℕ)) (phi inst : Reader Symbol BodyShape) (more others last : Reader Symbol (List InstShape)) (name : List ℕ) (q : List Symbol) (o : Out Symbol (List ℕ))
+inst_after : (result : Reader Symbol (List ℕ)) (phi inst : Reader Symbol BodyShape) (more others last : Reader Symbol (List InstShape)) (name : List ℕ) (q : List Symbol) (o : Out Symbol (List ℕ))
     → result (LocalSymbol name ∷ q) ≡ o → phi_by result (LocalSymbol name ∷ q) ≡ false
     → told_by result phi inst more others last (LocalSymbol name ∷ q) ≡ others_by result inst others last (LocalSymbol name ∷ q)
-inst_behind result phi inst more others last name q (Wrong rest) e h = rw e refl
-inst_behind result phi inst more others last name q (Got v rest) e h =
+inst_after result phi inst more others last name q (Wrong rest) e h = rw e refl
+inst_after result phi inst more others last name q (Got v rest) e h =
     let word : opens (heads phi_word) rest ≡ false = rw e at h in
     rw (e, word) (named_word v others (inst rest))
 
@@ -90,7 +90,7 @@ inst_first result phi inst more others last t q false a b c d = rw (a, b, c, d) 
 no_phi_here : (result : Reader Symbol (List ℕ)) (phi inst : Reader Symbol BodyShape) (more others last : Reader Symbol (List InstShape)) (ts : List Symbol)
     → phi_by result ts ≡ false → told_by result phi inst more others last ts ≡ others_by result inst others last ts
 no_phi_here result phi inst more others last [] h = refl
-no_phi_here result phi inst more others last (LocalSymbol name ∷ q) h = inst_behind result phi inst more others last name q (result (LocalSymbol name ∷ q)) refl h
+no_phi_here result phi inst more others last (LocalSymbol name ∷ q) h = inst_after result phi inst more others last name q (result (LocalSymbol name ∷ q)) refl h
 no_phi_here result phi inst more others last (t ∷ q) h = inst_first result phi inst more others last t q (heads inst_head t) refl refl refl h
 
 -- a line that is a phi, and then the others

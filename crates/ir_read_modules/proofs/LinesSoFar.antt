@@ -23,7 +23,7 @@ use Rattle.ir_read_consts.proofs.NamedItems.{Keeps, known_more, shapes_more}
 use Rattle.ir_grammar_insts.specs.Terminators.{term_head, term, run_term}
 use Rattle.ir_grammar_modules.specs.Blocks.{line_of, phi_line, begins_inst, run_inst_line, run_last_line, run_after_phis, run_lines}
 use Rattle.ir_grammar_modules.proofs.BlockLaw.{starts_result, starts_phi, starts_inst_line}
-use Rattle.ir_read_modules.specs.Lines.{is_phi_line, run_phi_line, run_others, lines_behind, AreLinesAt}
+use Rattle.ir_read_modules.specs.Lines.{is_phi_line, run_phi_line, run_others, lines_after, AreLinesAt}
 use Rattle.ir_read_modules.specs.Spots.{start_of, InPieces, IsLineAt}
 use Rattle.ir_read_modules.specs.BlockShapes.{lines_shape, lines_known}
 use Rattle.ir_read_modules.specs.declared.blocks.Lines.{Lines}
@@ -132,15 +132,15 @@ front_more {new = new} g lines more x h insts = shapes_more insts_keep g lines.i
 -- the terminator was read
 pub last_read : {old new : List (List ℕ)} → Grows old new → (n : ℕ) (ts rest : List Symbol) (lines more : Lines) (body : Body) → lines_known (length old) lines ≡ true
     → run_term n ts ≡ Got (body_shape new body) rest → more.insts.items ≡ lines.insts.items ++ (record { result = None; body = body }) ∷ []
-    → lines_behind (lines_shape old lines) (run_last_line n ts) ≡ Got (lines_shape new more) rest
+    → lines_after (lines_shape old lines) (run_last_line n ts) ≡ Got (lines_shape new more) rest
 last_read {old = old} {new = new} g n ts rest lines more body h e insts =
     rw e (ap (λ z. Got z rest) (front_more g lines more (record { result = None; body = body }) h insts))
 
 -- the lines so far and the instructions to come, at most m of them, and the terminator are the whole
 pub record InstsLeft (text : List ℕ) (toks : List Token) (n m : ℕ) (old names : List (List ℕ)) (before lines : Lines) (at next : ℕ) : Type 0 where
   pub so_far : SoFar text toks (λ from. AreLinesAt text toks from at (lines_shape old before) before.spots.items) old names lines at next
-  pub same : lines_behind (lines_shape old before) (run_after_phis n (drop at (symbols_of text toks)))
-      ≡ lines_behind (lines_shape names lines) (rest_by m begins_inst (run_inst_line n) (run_last_line n) (drop next (symbols_of text toks)))
+  pub same : lines_after (lines_shape old before) (run_after_phis n (drop at (symbols_of text toks)))
+      ≡ lines_after (lines_shape names lines) (rest_by m begins_inst (run_inst_line n) (run_last_line n) (drop next (symbols_of text toks)))
 
 pub insts_start : (text : List ℕ) (toks : List Token) (n : ℕ) (names : List (List ℕ)) (lines : Lines) (at : ℕ) → at ≤ length (symbols_of text toks)
     → lines_known (length names) lines ≡ true → InstsLeft text toks n n names names lines lines at at
@@ -154,17 +154,17 @@ pub insts_go_on : {text : List ℕ} {toks : List Token} {n m : ℕ} {old names n
     → InstsLeft text toks n k old new before more at past
 insts_go_on {text = text} {toks = toks} {n = n} {names = names} {new = new} {lines = lines} {next = next} k g e begins grows x fits past count read le more insts spots = record {
   so_far = so_far_more g.so_far grows x fits past count le (inst_between n text toks next past (inst_shape new x) g.so_far.within le read) more insts spots;
-  same = g.same ∙ ap (λ z. lines_behind (lines_shape names lines) (rest_by z begins_inst (run_inst_line n) (run_last_line n) (drop next (symbols_of text toks)))) e
+  same = g.same ∙ ap (λ z. lines_after (lines_shape names lines) (rest_by z begins_inst (run_inst_line n) (run_last_line n) (drop next (symbols_of text toks)))) e
       ∙ rest_next k begins_inst (run_inst_line n) (run_last_line n) (lines_shape names lines) (drop next (symbols_of text toks)) (drop past (symbols_of text toks)) (inst_shape new x) begins read
-      ∙ ap (λ z. lines_behind z (rest_by k begins_inst (run_inst_line n) (run_last_line n) (drop past (symbols_of text toks)))) (front_more grows lines more x g.so_far.all_known insts);
+      ∙ ap (λ z. lines_after z (rest_by k begins_inst (run_inst_line n) (run_last_line n) (drop past (symbols_of text toks)))) (front_more grows lines more x g.so_far.all_known insts);
 }
 
 pub insts_stop : {text : List ℕ} {toks : List Token} {n m : ℕ} {old names : List (List ℕ)} {before lines : Lines} {at next : ℕ} (k : ℕ)
     → InstsLeft text toks n m old names before lines at next → m ≡ suc k → opens begins_inst (drop next (symbols_of text toks)) ≡ true
     → (e : Stop) → Stops (symbols_of text toks) e (run_inst_line n (drop next (symbols_of text toks)))
-    → Stops (symbols_of text toks) e (lines_behind (lines_shape old before) (run_after_phis n (drop at (symbols_of text toks))))
+    → Stops (symbols_of text toks) e (lines_after (lines_shape old before) (run_after_phis n (drop at (symbols_of text toks))))
 insts_stop {text = text} {toks = toks} {n = n} {names = names} {lines = lines} {next = next} k g e begins (WrongSymbol j) d = (
-  g.same ∙ ap (λ z. lines_behind (lines_shape names lines) (rest_by z begins_inst (run_inst_line n) (run_last_line n) (drop next (symbols_of text toks)))) e
+  g.same ∙ ap (λ z. lines_after (lines_shape names lines) (rest_by z begins_inst (run_inst_line n) (run_last_line n) (drop next (symbols_of text toks)))) e
       ∙ rest_wrong k begins_inst (run_inst_line n) (run_last_line n) (lines_shape names lines) (drop next (symbols_of text toks)) (drop j (symbols_of text toks)) begins d.0,
   d.1,
 )
@@ -173,41 +173,41 @@ insts_stop k g e begins OutOfMemory d = tt
 -- the terminator comes next
 pub insts_last : {text : List ℕ} {toks : List Token} {n m : ℕ} {old names : List (List ℕ)} {before lines : Lines} {at next : ℕ}
     → InstsLeft text toks n m old names before lines at next → opens begins_inst (drop next (symbols_of text toks)) ≡ false
-    → lines_behind (lines_shape names lines) (run_last_line n (drop next (symbols_of text toks)))
-    ≡ lines_behind (lines_shape old before) (run_after_phis n (drop at (symbols_of text toks)))
+    → lines_after (lines_shape names lines) (run_last_line n (drop next (symbols_of text toks)))
+    ≡ lines_after (lines_shape old before) (run_after_phis n (drop at (symbols_of text toks)))
 insts_last {text = text} {toks = toks} {n = n} {m = m} {names = names} {lines = lines} {next = next} g begins =
-    sym (g.same ∙ ap (lines_behind (lines_shape names lines)) (rest_last m begins_inst (run_inst_line n) (run_last_line n) (drop next (symbols_of text toks)) begins))
+    sym (g.same ∙ ap (lines_after (lines_shape names lines)) (rest_last m begins_inst (run_inst_line n) (run_last_line n) (drop next (symbols_of text toks)) begins))
 
 pub insts_end : {text : List ℕ} {toks : List Token} {n m : ℕ} {old names : List (List ℕ)} {before lines : Lines} {at next : ℕ}
     → InstsLeft text toks n m old names before lines at next → m ≡ 0
-    → lines_behind (lines_shape names lines) (run_last_line n (drop next (symbols_of text toks)))
-    ≡ lines_behind (lines_shape old before) (run_after_phis n (drop at (symbols_of text toks)))
+    → lines_after (lines_shape names lines) (run_last_line n (drop next (symbols_of text toks)))
+    ≡ lines_after (lines_shape old before) (run_after_phis n (drop at (symbols_of text toks)))
 insts_end {text = text} {toks = toks} {n = n} {names = names} {lines = lines} {next = next} g e =
-    sym (g.same ∙ ap (λ z. lines_behind (lines_shape names lines) (rest_by z begins_inst (run_inst_line n) (run_last_line n) (drop next (symbols_of text toks)))) e
-    ∙ ap (lines_behind (lines_shape names lines)) (rest_end begins_inst (run_inst_line n) (run_last_line n) (drop next (symbols_of text toks))))
+    sym (g.same ∙ ap (λ z. lines_after (lines_shape names lines) (rest_by z begins_inst (run_inst_line n) (run_last_line n) (drop next (symbols_of text toks)))) e
+    ∙ ap (lines_after (lines_shape names lines)) (rest_end begins_inst (run_inst_line n) (run_last_line n) (drop next (symbols_of text toks))))
 
 -- one instruction after lines
-pub inst_behind : (text : List ℕ) (toks : List Token) (n at next : ℕ) {old new : List (List ℕ)} → Grows old new → (lines more : Lines) (x : Inst)
+pub inst_after : (text : List ℕ) (toks : List Token) (n at next : ℕ) {old new : List (List ℕ)} → Grows old new → (lines more : Lines) (x : Inst)
     → at ≤ length (symbols_of text toks) → lines_known (length old) lines ≡ true → inst_known (length new) x ≡ true → length new + at ≤ length old + next
     → run_inst_line n (drop at (symbols_of text toks)) ≡ Got (inst_shape new x) (drop next (symbols_of text toks)) → next ≤ length (symbols_of text toks)
     → more.insts.items ≡ lines.insts.items ++ x ∷ [] → more.spots.items ≡ lines.spots.items ++ start_of (drop at toks) ∷ []
     → SoFar text toks (λ from. AreLinesAt text toks from at (lines_shape old lines) lines.spots.items) old new more at next
-inst_behind text toks n at next {old = old} {new = new} g lines more x h known fits count read le insts spots =
+inst_after text toks n at next {old = old} {new = new} g lines more x h known fits count read le insts spots =
     so_far_more (so_far_start text toks old lines at h known) g x fits next count le (inst_between n text toks at next (inst_shape new x) h le read) more insts spots
 
 -- the first line after the phis is an instruction, and others follow
 pub others_go_on : {old new : List (List ℕ)} → Grows old new → (n : ℕ) (ts q : List Symbol) (lines more : Lines) (x : Inst) → lines_known (length old) lines ≡ true
     → opens begins_inst ts ≡ true → run_inst_line n ts ≡ Got (inst_shape new x) q → more.insts.items ≡ lines.insts.items ++ x ∷ []
-    → lines_behind (lines_shape new more) (run_after_phis n q) ≡ lines_behind (lines_shape old lines) (run_others n ts)
+    → lines_after (lines_shape new more) (run_after_phis n q) ≡ lines_after (lines_shape old lines) (run_others n ts)
 others_go_on {old = old} {new = new} g n ts q lines more x h begins read insts =
-    let step : lines_behind (lines_shape old lines) (run_map cons (run_seq (run_inst_line n) (run_after_phis n)) ts) ≡ lines_behind (lines_shape old lines ++ inst_shape new x ∷ []) (run_after_phis n q) =
+    let step : lines_after (lines_shape old lines) (run_map cons (run_seq (run_inst_line n) (run_after_phis n)) ts) ≡ lines_after (lines_shape old lines ++ inst_shape new x ∷ []) (run_after_phis n q) =
     line_then (run_inst_line n) (run_after_phis n) (lines_shape old lines) ts q (inst_shape new x) read in
-    rw begins (sym (step ∙ ap (λ z. lines_behind z (run_after_phis n q)) (front_more g lines more x h insts)))
+    rw begins (sym (step ∙ ap (λ z. lines_after z (run_after_phis n q)) (front_more g lines more x h insts)))
 
 -- the lines so far and those to come, at most m phis, are the whole
 pub record LinesLeft (text : List ℕ) (toks : List Token) (n m : ℕ) (old names : List (List ℕ)) (lines : Lines) (at next : ℕ) : Type 0 where
   pub so_far : SoFar text toks (λ from. from ≡ at) old names lines at next
-  pub same : run_lines n (drop at (symbols_of text toks)) ≡ lines_behind (lines_shape names lines) (run_lines m (drop next (symbols_of text toks)))
+  pub same : run_lines n (drop at (symbols_of text toks)) ≡ lines_after (lines_shape names lines) (run_lines m (drop next (symbols_of text toks)))
 
 pub lines_start : (text : List ℕ) (toks : List Token) (n : ℕ) (names : List (List ℕ)) (lines : Lines) (at : ℕ) → at ≤ length (symbols_of text toks)
     → lines.insts.items ≡ [] → lines.spots.items ≡ [] → LinesLeft text toks n n names names lines at at
@@ -228,10 +228,10 @@ lines_go_on {text = text} {toks = toks} {m = m} {names = names} {new = new} {lin
     let here : run_phi_line (suc k) (drop next ss) ≡ Got (inst_shape new x) (drop past ss) = subst (λ z. run_phi_line z (drop next ss) ≡ Got (inst_shape new x) (drop past ss)) e read in
     record {
       so_far = so_far_more g.so_far grows x fits past count le (phi_between m text toks next past (inst_shape new x) g.so_far.within le read) more insts spots;
-      same = g.same ∙ ap (λ z. lines_behind (lines_shape names lines) (run_lines z (drop next ss))) e
-          ∙ ap (lines_behind (lines_shape names lines)) (lines_with_phi k (drop next ss) begins)
+      same = g.same ∙ ap (λ z. lines_after (lines_shape names lines) (run_lines z (drop next ss))) e
+          ∙ ap (lines_after (lines_shape names lines)) (lines_with_phi k (drop next ss) begins)
           ∙ line_then (run_phi_line (suc k)) (run_lines k) (lines_shape names lines) (drop next ss) (drop past ss) (inst_shape new x) here
-          ∙ ap (λ z. lines_behind z (run_lines k (drop past ss))) (front_more grows lines more x g.so_far.all_known insts);
+          ∙ ap (λ z. lines_after z (run_lines k (drop past ss))) (front_more grows lines more x g.so_far.all_known insts);
     }
 
 pub lines_stop : {text : List ℕ} {toks : List Token} {n m : ℕ} {old names : List (List ℕ)} {lines : Lines} {at next : ℕ} (k : ℕ)
@@ -241,8 +241,8 @@ pub lines_stop : {text : List ℕ} {toks : List Token} {n m : ℕ} {old names : 
 lines_stop {text = text} {toks = toks} {names = names} {lines = lines} {next = next} k g e begins (WrongSymbol j) d =
     let ss : List Symbol = symbols_of text toks in
     let here : run_phi_line (suc k) (drop next ss) ≡ Wrong (drop j ss) = subst (λ z. run_phi_line z (drop next ss) ≡ Wrong (drop j ss)) e d.0 in (
-      g.same ∙ ap (λ z. lines_behind (lines_shape names lines) (run_lines z (drop next ss))) e
-          ∙ ap (lines_behind (lines_shape names lines)) (lines_with_phi k (drop next ss) begins)
+      g.same ∙ ap (λ z. lines_after (lines_shape names lines) (run_lines z (drop next ss))) e
+          ∙ ap (lines_after (lines_shape names lines)) (lines_with_phi k (drop next ss) begins)
           ∙ line_wrong (run_phi_line (suc k)) (run_lines k) (lines_shape names lines) (drop next ss) (drop j ss) here,
       d.1,
     )
@@ -251,16 +251,16 @@ lines_stop k g e begins OutOfMemory d = tt
 -- the phis are read
 pub lines_others : {text : List ℕ} {toks : List Token} {n m : ℕ} {old names : List (List ℕ)} {lines : Lines} {at next : ℕ} (k : ℕ)
     → LinesLeft text toks n m old names lines at next → m ≡ suc k → is_phi_line (drop next (symbols_of text toks)) ≡ false
-    → lines_behind (lines_shape names lines) (run_others m (drop next (symbols_of text toks))) ≡ run_lines n (drop at (symbols_of text toks))
+    → lines_after (lines_shape names lines) (run_others m (drop next (symbols_of text toks))) ≡ run_lines n (drop at (symbols_of text toks))
 lines_others {text = text} {toks = toks} {names = names} {lines = lines} {next = next} k g e begins =
     let ss : List Symbol = symbols_of text toks in
-    sym (g.same ∙ ap (λ z. lines_behind (lines_shape names lines) (run_lines z (drop next ss))) e
-    ∙ ap (lines_behind (lines_shape names lines)) (lines_without_phi k (drop next ss) begins)
-    ∙ ap (λ z. lines_behind (lines_shape names lines) (run_others z (drop next ss))) (sym e))
+    sym (g.same ∙ ap (λ z. lines_after (lines_shape names lines) (run_lines z (drop next ss))) e
+    ∙ ap (lines_after (lines_shape names lines)) (lines_without_phi k (drop next ss) begins)
+    ∙ ap (λ z. lines_after (lines_shape names lines) (run_others z (drop next ss))) (sym e))
 
 -- as many phis were read as may be
 pub lines_run_out : {text : List ℕ} {toks : List Token} {n m : ℕ} {old names : List (List ℕ)} {lines : Lines} {at next : ℕ}
     → LinesLeft text toks n m old names lines at next → m ≡ 0 → run_lines n (drop at (symbols_of text toks)) ≡ Wrong (drop next (symbols_of text toks))
 lines_run_out {text = text} {toks = toks} {names = names} {lines = lines} {next = next} g e =
     let ss : List Symbol = symbols_of text toks in
-    g.same ∙ ap (λ z. lines_behind (lines_shape names lines) (run_lines z (drop next ss))) e ∙ ap (lines_behind (lines_shape names lines)) (no_lines (drop next ss))
+    g.same ∙ ap (λ z. lines_after (lines_shape names lines) (run_lines z (drop next ss))) e ∙ ap (lines_after (lines_shape names lines)) (no_lines (drop next ss))

@@ -22,10 +22,10 @@ use Rattle.ir_read_modules.proofs.Sound.{sound_one, sound_maybe}
 use Rattle.ir_read_modules.proofs.Pieces.{slices_joined, slice_spelled}
 
 -- where the lines of a block begin, after what was read of its Label
-spots_behind : (text : List ℕ) (toks : List Token) (at first end : ℕ) (label : Option (List ℕ)) (vs : List InstShape) (spots : List ℕ) → at ≤ first → first ≤ end
+spots_after : (text : List ℕ) (toks : List Token) (at first end : ℕ) (label : Option (List ℕ)) (vs : List InstShape) (spots : List ℕ) → at ≤ first → first ≤ end
     → maybe (one label_name) (symbols_of text (slice_range toks at first)) label → InPieces (IsLineAt text) (slice_range toks first end) vs spots
     → IsEntryAt text (slice_range toks at end) (label, vs) spots
-spots_behind text toks at first end label vs spots h k word lines =
+spots_after text toks at first end label vs spots h k word lines =
     (slice_range toks at first, slice_range toks first end, slices_joined toks at first end h k, word, lines)
 
 goes_on : {old new : List (List ℕ)} (at next : ℕ) → Grows old new → length new + at ≤ length old + next → at ≤ next
@@ -38,7 +38,7 @@ pub entry_spots : {old mid new : List (List ℕ)} → Grows old mid → Grows mi
     → InPieces (IsLineAt text) (slice_range toks first end) vs spots → IsEntryAt text (slice_range toks at end) (option_map (name_shape new) o, vs) spots
 entry_spots {mid = mid} g j text toks at first end o vs spots known h k count next read lines =
     let word = slice_spelled (sound_maybe (heads label_name) (sound_one label_name)) text toks at first (option_map (name_shape mid) o) h k read in
-    spots_behind text toks at first end _ vs spots (goes_on at first g count) (goes_on first end j next)
+    spots_after text toks at first end _ vs spots (goes_on at first g count) (goes_on first end j next)
     (subst (λ z. maybe (one label_name) (symbols_of text (slice_range toks at first)) z) (result_kept j o known) word) lines
 
 pub block_spots : {old mid new : List (List ℕ)} → Grows old mid → Grows mid new → (text : List ℕ) (toks : List Token) (at first end : ℕ) (id : NameId) (v : Vec Inst Global) (spots : List ℕ)
@@ -48,4 +48,4 @@ pub block_spots : {old mid new : List (List ℕ)} → Grows old mid → Grows mi
     → IsBlockAt text (slice_range toks at end) (block_shape new (record { name = id; insts = v })) spots
 block_spots {mid = mid} {new = new} g j text toks at first end id v spots h k count next read lines =
     let word = slice_spelled (sound_one label_name) text toks at first (name_shape mid id) h k read in
-    (Some (name_shape mid id), spots_behind text toks at first end (Some (name_shape mid id)) (map (inst_shape new) v.items) spots (goes_on at first g count) (goes_on first end j next) word lines)
+    (Some (name_shape mid id), spots_after text toks at first end (Some (name_shape mid id)) (map (inst_shape new) v.items) spots (goes_on at first g count) (goes_on first end j next) word lines)

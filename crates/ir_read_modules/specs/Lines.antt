@@ -31,8 +31,8 @@ abbrev pub run_others : ℕ → Reader Symbol (List InstShape)
 run_others n = run_or begins_inst (run_map cons (run_seq (run_inst_line n) (run_after_phis n))) (run_last_line n)
 
 -- the answer for lines of which the first are front
-abbrev pub lines_behind : List InstShape → Out Symbol (List InstShape) → Out Symbol (List InstShape)
-lines_behind front o = then_out o (λ vs rest. Got (front ++ vs) rest)
+abbrev pub lines_after : List InstShape → Out Symbol (List InstShape) → Out Symbol (List InstShape)
+lines_after front o = then_out o (λ vs rest. Got (front ++ vs) rest)
 
 -- the tokens between two numbers are these lines, and each line begins at its spot
 abbrev pub AreLinesAt : List ℕ → List Token → ℕ → ℕ → List InstShape → List ℕ → Type 0

@@ -5,7 +5,7 @@ ghost use Rattle.grammar.specs.Code.{Gives};
 ghost use Rattle.ir_lex.specs.Symbols.{symbols_of};
 ghost use Rattle.ir_tree.specs.NameTable.{Grows};
 ghost use Rattle.ir_grammar_modules.specs.Blocks.{run_last_line, run_after_phis};
-ghost use Rattle.ir_read_modules.specs.Lines.{run_others, lines_behind, AreLinesAt};
+ghost use Rattle.ir_read_modules.specs.Lines.{run_others, lines_after, AreLinesAt};
 ghost use Rattle.ir_read_modules.specs.BlockShapes.{lines_shape, lines_known};
 
 use crate::Lines;
@@ -35,7 +35,7 @@ fn last_at(
     ensures count { IfOk result (λ x. length names.new + at ≤ length names.old + x.1) }
     ensures known { IfOk result (λ x. lines_known (length names.new) x.0 ≡ true) }
     ensures reads { Gives (lines_shape names.new) (symbols_of text.now toks.now) result
-        (lines_behind (lines_shape names.old lines) (run_last_line budget (drop at (symbols_of text.now toks.now)))) }
+        (lines_after (lines_shape names.old lines) (run_last_line budget (drop at (symbols_of text.now toks.now)))) }
     ensures spots { (from : ℕ) → AreLinesAt text.now toks.now from at (lines_shape names.old lines) lines.spots.items
         → IfOk result (λ x. AreLinesAt text.now toks.now from x.1 (lines_shape names.new x.0) x.0.spots.items) }
 {
@@ -63,7 +63,7 @@ fn more_at(
     ensures count { IfOk result (λ x. length names.new + at ≤ length names.old + x.1) }
     ensures known { IfOk result (λ x. lines_known (length names.new) x.0 ≡ true) }
     ensures reads { Gives (lines_shape names.new) (symbols_of text.now toks.now) result
-        (lines_behind (lines_shape names.old lines) (run_after_phis budget (drop at (symbols_of text.now toks.now)))) }
+        (lines_after (lines_shape names.old lines) (run_after_phis budget (drop at (symbols_of text.now toks.now)))) }
     ensures spots { (from : ℕ) → AreLinesAt text.now toks.now from at (lines_shape names.old lines) lines.spots.items
         → IfOk result (λ x. AreLinesAt text.now toks.now from x.1 (lines_shape names.new x.0) x.0.spots.items) }
 {
@@ -97,7 +97,7 @@ pub fn others_at(
     ensures count { IfOk result (λ x. length names.new + at ≤ length names.old + x.1) }
     ensures known { IfOk result (λ x. lines_known (length names.new) x.0 ≡ true) }
     ensures reads { Gives (lines_shape names.new) (symbols_of text.now toks.now) result
-        (lines_behind (lines_shape names.old lines) (run_others budget (drop at (symbols_of text.now toks.now)))) }
+        (lines_after (lines_shape names.old lines) (run_others budget (drop at (symbols_of text.now toks.now)))) }
     ensures spots { (from : ℕ) → AreLinesAt text.now toks.now from at (lines_shape names.old lines) lines.spots.items
         → IfOk result (λ x. AreLinesAt text.now toks.now from x.1 (lines_shape names.new x.0) x.0.spots.items) }
 {

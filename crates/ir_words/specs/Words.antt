@@ -1,16 +1,31 @@
 -- What a word stands for.
-use Rattle.std.specs.Prelude.{ℕ, Bool, true, false, not, ◌==◌, ◌&&◌, if◌then◌else◌, nat_lt, List, [], ◌∷◌, map}
+use Rattle.std.specs.Prelude.{ℕ, Bool, true, false, not, ◌==◌, ◌&&◌, ◌||◌, if◌then◌else◌, nat_lt, List, [], ◌∷◌, ◌++◌, map}
 use Rattle.std.specs.Str.{bytes_eq}
 use Rattle.std.specs.Str.Parse.{digits_value}
 use Rattle.ir_words.specs.Digits.{is_number}
 use Rattle.ir_words.specs.declared.words.Keyword.{Keyword}
 use Rattle.ir_words.specs.declared.words.Keyword.TheVariants.{HeaderLine, Declare, Call, Align, Comdat, Group, Tail, Quiet, Integer, Outside, Other}
-use Rattle.ir_words.specs.declared.words.TheConstants.{LANGUAGE_WORDS, DROPPED_WORDS, OUTSIDE_WORDS}
+use Rattle.ir_words.specs.Lists.{keyword_head, language_keywords, dropped_words, outside_words}
+
+-- the first of these keywords whose word this is
+unfoldable pub spelled_by : List Keyword → List ℕ → Keyword
+spelled_by [] w = Other
+spelled_by (keyword ∷ keywords) w = if bytes_eq (keyword_head keyword) w then keyword else spelled_by keywords w
 
 -- what a word stands for by a table: what the first row of this word says
 unfoldable pub listed : List (List ℕ × Keyword) → List ℕ → Keyword
 listed [] w = Other
 listed (row ∷ rows) w = if bytes_eq row.0 w then row.1 else listed rows w
+
+-- the word is one of these
+unfoldable pub is_among : List (List ℕ) → List ℕ → Bool
+is_among [] w = false
+is_among (word ∷ words) w = bytes_eq word w || is_among words w
+
+-- no word stands twice in the list
+unfoldable pub are_distinct : List (List ℕ) → Bool
+are_distinct [] = true
+are_distinct (word ∷ words) = not (is_among words word) && are_distinct words
 
 -- whether digits begin with a zero
 abbrev pub has_leading_zero : List ℕ → Bool
@@ -37,15 +52,19 @@ integer_keyword (b ∷ bs) = width_keyword bs
 
 -- what a word of a module stands for
 unfoldable pub language_word : List ℕ → Keyword
-language_word w = listed (map (λ row. (row.0.now, row.1)) LANGUAGE_WORDS) w
+language_word w = spelled_by language_keywords w
 
 -- what a word that is dropped stands for
 unfoldable pub dropped_word : List ℕ → Keyword
-dropped_word w = listed (map (λ row. (row.0.now, row.1)) DROPPED_WORDS) w
+dropped_word w = listed dropped_words w
 
 -- what a word that is outside the language stands for
 unfoldable pub outside_word : List ℕ → Keyword
-outside_word w = listed (map (λ row. (row.0.now, row.1)) OUTSIDE_WORDS) w
+outside_word w = if is_among outside_words w then Outside else Other
+
+-- every word that stands for a keyword, in the order of the lists
+unfoldable pub all_words : List (List ℕ)
+all_words = map keyword_head language_keywords ++ (map (λ row. row.0) dropped_words ++ outside_words)
 
 -- the word stands for nothing
 abbrev pub is_other : Keyword → Bool

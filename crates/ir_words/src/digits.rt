@@ -5,7 +5,7 @@ ghost use Rattle.std.specs.List.{prefix_len};
 ghost use Rattle.std.specs.Str.Parse.{digits_value};
 ghost use Rattle.ir_words.specs.Digits.{Passes, is_digit, is_number};
 
-/// A decimal digit.
+/// Tells whether the byte is a decimal digit.
 #[tactic(auto, unfolding(crate::specs::Digits::is_digit))]
 pub fn is_digit(b: u8) -> bool
     ensures { result ≡ is_digit b }
@@ -13,7 +13,7 @@ pub fn is_digit(b: u8) -> bool
     b.is_ascii_digit()
 }
 
-/// How many digits the text begins with.
+/// Returns how many digits the text begins with.
 pub fn digit_count(text: &[u8]) -> usize
     ensures count { result ≡ prefix_len is_digit text.now }
     ensures within { result ≤ length text.now }
@@ -21,7 +21,7 @@ pub fn digit_count(text: &[u8]) -> usize
     text.iter().take_while(|b| is_digit(**b)).count()
 }
 
-/// The number that the digits spell, or 2^128 - 1 where it is no less.
+/// Returns the number that the digits spell, or 2^128 - 1 where it is no less.
 pub fn value(digits: &[u8]) -> u128
     requires { Passes is_digit digits.now }
     ensures { result ≡ min (digits_value 10 digits.now) (2 ^ 128 - 1) }
@@ -35,7 +35,7 @@ pub fn value(digits: &[u8]) -> u128
     value
 }
 
-/// Whether these are digits, at least one.
+/// Tells whether these are digits, at least one.
 pub fn is_number(text: &[u8]) -> bool
     ensures { result ≡ is_number text.now }
 {

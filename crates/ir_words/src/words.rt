@@ -1,8 +1,9 @@
 //! The words of the language, each with what it stands for.
 
 ghost use Rattle.std.specs.Prelude.{◌≡◌, true, map};
+ghost use Rattle.ir_words.specs.Lists.{keyword_head, language_keywords, dropped_words, outside_words};
 ghost use Rattle.ir_words.specs.Digits.{is_number};
-ghost use Rattle.ir_words.specs.Words.{listed, has_leading_zero, width_keyword, is_integer_word, integer_keyword, language_word, dropped_word, outside_word, is_other, keyword_of, is_header, is_caller, is_align, is_comdat, is_group_word, is_quiet_word, is_outside_word};
+ghost use Rattle.ir_words.specs.Words.{spelled_by, listed, is_among, are_distinct, all_words, has_leading_zero, width_keyword, is_integer_word, integer_keyword, language_word, dropped_word, outside_word, is_other, keyword_of, is_header, is_caller, is_align, is_comdat, is_group_word, is_quiet_word, is_outside_word};
 
 use crate::digits::{is_number, value};
 
@@ -147,67 +148,67 @@ pub enum Keyword {
     Other,
 }
 
-/// The words that a module is made of.
-const LANGUAGE_WORDS: [(&[u8], Keyword); 59] = [
-    (b"declare", Keyword::Declare),
-    (b"call", Keyword::Call),
-    (b"type", Keyword::Type),
-    (b"global", Keyword::Global),
-    (b"constant", Keyword::Constant),
-    (b"define", Keyword::Define),
-    (b"x", Keyword::X),
-    (b"void", Keyword::Void),
-    (b"ptr", Keyword::Ptr),
-    (b"phi", Keyword::Phi),
-    (b"add", Keyword::Add),
-    (b"sub", Keyword::Sub),
-    (b"mul", Keyword::Mul),
-    (b"shl", Keyword::Shl),
-    (b"udiv", Keyword::Udiv),
-    (b"sdiv", Keyword::Sdiv),
-    (b"lshr", Keyword::Lshr),
-    (b"ashr", Keyword::Ashr),
-    (b"urem", Keyword::Urem),
-    (b"srem", Keyword::Srem),
-    (b"and", Keyword::And),
-    (b"or", Keyword::Or),
-    (b"xor", Keyword::Xor),
-    (b"nuw", Keyword::Nuw),
-    (b"nsw", Keyword::Nsw),
-    (b"exact", Keyword::Exact),
-    (b"inbounds", Keyword::InBounds),
-    (b"icmp", Keyword::Icmp),
-    (b"select", Keyword::Select),
-    (b"zext", Keyword::Zext),
-    (b"sext", Keyword::Sext),
-    (b"trunc", Keyword::Trunc),
-    (b"to", Keyword::To),
-    (b"freeze", Keyword::Freeze),
-    (b"alloca", Keyword::Alloca),
-    (b"load", Keyword::Load),
-    (b"store", Keyword::Store),
-    (b"getelementptr", Keyword::GetElementPtr),
-    (b"br", Keyword::Br),
-    (b"label", Keyword::Label),
-    (b"switch", Keyword::Switch),
-    (b"ret", Keyword::Ret),
-    (b"unreachable", Keyword::Unreachable),
-    (b"eq", Keyword::Eq),
-    (b"ne", Keyword::Ne),
-    (b"ugt", Keyword::Ugt),
-    (b"uge", Keyword::Uge),
-    (b"ult", Keyword::Ult),
-    (b"ule", Keyword::Ule),
-    (b"sgt", Keyword::Sgt),
-    (b"sge", Keyword::Sge),
-    (b"slt", Keyword::Slt),
-    (b"sle", Keyword::Sle),
-    (b"true", Keyword::True),
-    (b"false", Keyword::False),
-    (b"null", Keyword::Null),
-    (b"undef", Keyword::Undef),
-    (b"poison", Keyword::Poison),
-    (b"zeroinitializer", Keyword::ZeroInitializer),
+/// The keywords that have a word of their own, which a module is made of.
+const LANGUAGE_KEYWORDS: [Keyword; 59] = [
+    Keyword::Declare,
+    Keyword::Call,
+    Keyword::Type,
+    Keyword::Global,
+    Keyword::Constant,
+    Keyword::Define,
+    Keyword::X,
+    Keyword::Void,
+    Keyword::Ptr,
+    Keyword::Phi,
+    Keyword::Add,
+    Keyword::Sub,
+    Keyword::Mul,
+    Keyword::Shl,
+    Keyword::Udiv,
+    Keyword::Sdiv,
+    Keyword::Lshr,
+    Keyword::Ashr,
+    Keyword::Urem,
+    Keyword::Srem,
+    Keyword::And,
+    Keyword::Or,
+    Keyword::Xor,
+    Keyword::Nuw,
+    Keyword::Nsw,
+    Keyword::Exact,
+    Keyword::InBounds,
+    Keyword::Icmp,
+    Keyword::Select,
+    Keyword::Zext,
+    Keyword::Sext,
+    Keyword::Trunc,
+    Keyword::To,
+    Keyword::Freeze,
+    Keyword::Alloca,
+    Keyword::Load,
+    Keyword::Store,
+    Keyword::GetElementPtr,
+    Keyword::Br,
+    Keyword::Label,
+    Keyword::Switch,
+    Keyword::Ret,
+    Keyword::Unreachable,
+    Keyword::Eq,
+    Keyword::Ne,
+    Keyword::Ugt,
+    Keyword::Uge,
+    Keyword::Ult,
+    Keyword::Ule,
+    Keyword::Sgt,
+    Keyword::Sge,
+    Keyword::Slt,
+    Keyword::Sle,
+    Keyword::True,
+    Keyword::False,
+    Keyword::Null,
+    Keyword::Undef,
+    Keyword::Poison,
+    Keyword::ZeroInitializer,
 ];
 
 /// The words that are dropped, alone or with what stands beside them.
@@ -294,76 +295,166 @@ const DROPPED_WORDS: [(&[u8], Keyword); 79] = [
 ];
 
 /// The words that are outside the language.
-const OUTSIDE_WORDS: [(&[u8], Keyword); 66] = [
-    (b"half", Keyword::Outside),
-    (b"bfloat", Keyword::Outside),
-    (b"float", Keyword::Outside),
-    (b"double", Keyword::Outside),
-    (b"fp128", Keyword::Outside),
-    (b"x86_fp80", Keyword::Outside),
-    (b"ppc_fp128", Keyword::Outside),
-    (b"x86_mmx", Keyword::Outside),
-    (b"x86_amx", Keyword::Outside),
-    (b"token", Keyword::Outside),
-    (b"opaque", Keyword::Outside),
-    (b"fneg", Keyword::Outside),
-    (b"fadd", Keyword::Outside),
-    (b"fsub", Keyword::Outside),
-    (b"fmul", Keyword::Outside),
-    (b"fdiv", Keyword::Outside),
-    (b"frem", Keyword::Outside),
-    (b"fcmp", Keyword::Outside),
-    (b"fptrunc", Keyword::Outside),
-    (b"fpext", Keyword::Outside),
-    (b"fptoui", Keyword::Outside),
-    (b"fptosi", Keyword::Outside),
-    (b"uitofp", Keyword::Outside),
-    (b"sitofp", Keyword::Outside),
-    (b"ptrtoint", Keyword::Outside),
-    (b"inttoptr", Keyword::Outside),
-    (b"bitcast", Keyword::Outside),
-    (b"addrspacecast", Keyword::Outside),
-    (b"addrspace", Keyword::Outside),
-    (b"extractelement", Keyword::Outside),
-    (b"insertelement", Keyword::Outside),
-    (b"shufflevector", Keyword::Outside),
-    (b"extractvalue", Keyword::Outside),
-    (b"insertvalue", Keyword::Outside),
-    (b"atomic", Keyword::Outside),
-    (b"atomicrmw", Keyword::Outside),
-    (b"cmpxchg", Keyword::Outside),
-    (b"fence", Keyword::Outside),
-    (b"invoke", Keyword::Outside),
-    (b"resume", Keyword::Outside),
-    (b"landingpad", Keyword::Outside),
-    (b"catchswitch", Keyword::Outside),
-    (b"catchret", Keyword::Outside),
-    (b"catchpad", Keyword::Outside),
-    (b"cleanupret", Keyword::Outside),
-    (b"cleanuppad", Keyword::Outside),
-    (b"callbr", Keyword::Outside),
-    (b"indirectbr", Keyword::Outside),
-    (b"blockaddress", Keyword::Outside),
-    (b"va_arg", Keyword::Outside),
-    (b"asm", Keyword::Outside),
-    (b"byval", Keyword::Outside),
-    (b"inalloca", Keyword::Outside),
-    (b"preallocated", Keyword::Outside),
-    (b"external", Keyword::Outside),
-    (b"extern_weak", Keyword::Outside),
-    (b"thread_local", Keyword::Outside),
-    (b"alias", Keyword::Outside),
-    (b"ifunc", Keyword::Outside),
-    (b"metadata", Keyword::Outside),
-    (b"personality", Keyword::Outside),
-    (b"gc", Keyword::Outside),
-    (b"swiftself", Keyword::Outside),
-    (b"swifterror", Keyword::Outside),
-    (b"vscale", Keyword::Outside),
-    (b"...", Keyword::Outside),
+const OUTSIDE_WORDS: [&[u8]; 66] = [
+    b"half",
+    b"bfloat",
+    b"float",
+    b"double",
+    b"fp128",
+    b"x86_fp80",
+    b"ppc_fp128",
+    b"x86_mmx",
+    b"x86_amx",
+    b"token",
+    b"opaque",
+    b"fneg",
+    b"fadd",
+    b"fsub",
+    b"fmul",
+    b"fdiv",
+    b"frem",
+    b"fcmp",
+    b"fptrunc",
+    b"fpext",
+    b"fptoui",
+    b"fptosi",
+    b"uitofp",
+    b"sitofp",
+    b"ptrtoint",
+    b"inttoptr",
+    b"bitcast",
+    b"addrspacecast",
+    b"addrspace",
+    b"extractelement",
+    b"insertelement",
+    b"shufflevector",
+    b"extractvalue",
+    b"insertvalue",
+    b"atomic",
+    b"atomicrmw",
+    b"cmpxchg",
+    b"fence",
+    b"invoke",
+    b"resume",
+    b"landingpad",
+    b"catchswitch",
+    b"catchret",
+    b"catchpad",
+    b"cleanupret",
+    b"cleanuppad",
+    b"callbr",
+    b"indirectbr",
+    b"blockaddress",
+    b"va_arg",
+    b"asm",
+    b"byval",
+    b"inalloca",
+    b"preallocated",
+    b"external",
+    b"extern_weak",
+    b"thread_local",
+    b"alias",
+    b"ifunc",
+    b"metadata",
+    b"personality",
+    b"gc",
+    b"swiftself",
+    b"swifterror",
+    b"vscale",
+    b"...",
 ];
 
-/// What the word stands for by the rows of a table.
+/// Returns the word of a keyword, of an integer type what stands before its width; no bytes where many words
+/// stand for it, or where it is not of the language.
+pub fn keyword_head(keyword: Keyword) -> &'static [u8]
+    ensures { result.now ≡ keyword_head keyword }
+{
+    match keyword {
+        Keyword::Integer(_) => b"i",
+        Keyword::Declare => b"declare",
+        Keyword::Call => b"call",
+        Keyword::Type => b"type",
+        Keyword::Global => b"global",
+        Keyword::Constant => b"constant",
+        Keyword::Define => b"define",
+        Keyword::X => b"x",
+        Keyword::Void => b"void",
+        Keyword::Ptr => b"ptr",
+        Keyword::Phi => b"phi",
+        Keyword::Add => b"add",
+        Keyword::Sub => b"sub",
+        Keyword::Mul => b"mul",
+        Keyword::Shl => b"shl",
+        Keyword::Udiv => b"udiv",
+        Keyword::Sdiv => b"sdiv",
+        Keyword::Lshr => b"lshr",
+        Keyword::Ashr => b"ashr",
+        Keyword::Urem => b"urem",
+        Keyword::Srem => b"srem",
+        Keyword::And => b"and",
+        Keyword::Or => b"or",
+        Keyword::Xor => b"xor",
+        Keyword::Nuw => b"nuw",
+        Keyword::Nsw => b"nsw",
+        Keyword::Exact => b"exact",
+        Keyword::InBounds => b"inbounds",
+        Keyword::Icmp => b"icmp",
+        Keyword::Select => b"select",
+        Keyword::Zext => b"zext",
+        Keyword::Sext => b"sext",
+        Keyword::Trunc => b"trunc",
+        Keyword::To => b"to",
+        Keyword::Freeze => b"freeze",
+        Keyword::Alloca => b"alloca",
+        Keyword::Load => b"load",
+        Keyword::Store => b"store",
+        Keyword::GetElementPtr => b"getelementptr",
+        Keyword::Br => b"br",
+        Keyword::Label => b"label",
+        Keyword::Switch => b"switch",
+        Keyword::Ret => b"ret",
+        Keyword::Unreachable => b"unreachable",
+        Keyword::Eq => b"eq",
+        Keyword::Ne => b"ne",
+        Keyword::Ugt => b"ugt",
+        Keyword::Uge => b"uge",
+        Keyword::Ult => b"ult",
+        Keyword::Ule => b"ule",
+        Keyword::Sgt => b"sgt",
+        Keyword::Sge => b"sge",
+        Keyword::Slt => b"slt",
+        Keyword::Sle => b"sle",
+        Keyword::True => b"true",
+        Keyword::False => b"false",
+        Keyword::Null => b"null",
+        Keyword::Undef => b"undef",
+        Keyword::Poison => b"poison",
+        Keyword::ZeroInitializer => b"zeroinitializer",
+        Keyword::HeaderLine
+        | Keyword::Align
+        | Keyword::Comdat
+        | Keyword::Group
+        | Keyword::Tail
+        | Keyword::Quiet
+        | Keyword::Outside
+        | Keyword::Other => b"",
+    }
+}
+
+/// Returns the first of these keywords whose word this is, or `Other`.
+#[tactic(auto, unfolding(crate::specs::Words::spelled_by))]
+fn spelled_by(keywords: &[Keyword], word: &[u8]) -> Keyword
+    ensures { result ≡ spelled_by keywords.now word.now }
+{
+    for keyword in keywords {
+        if keyword_head(*keyword) == word {
+            return *keyword;
+        }
+    }
+    Keyword::Other
+}
+
+/// Returns what the word stands for by the rows of a table, or `Other`.
 #[tactic(auto, unfolding(crate::specs::Words::listed))]
 fn listed(table: &[(&[u8], Keyword)], word: &[u8]) -> Keyword
     ensures { result ≡ listed (map (λ row. (row.0.now, row.1)) table.now) word.now }
@@ -376,7 +467,20 @@ fn listed(table: &[(&[u8], Keyword)], word: &[u8]) -> Keyword
     Keyword::Other
 }
 
-/// Whether the digits begin with a zero.
+/// Tells whether the word is one of these.
+#[tactic(auto, unfolding(crate::specs::Words::is_among))]
+fn is_among(words: &[&[u8]], word: &[u8]) -> bool
+    ensures { result ≡ is_among (map (λ w. w.now) words.now) word.now }
+{
+    for spelling in words {
+        if *spelling == word {
+            return true;
+        }
+    }
+    false
+}
+
+/// Tells whether the digits begin with a zero.
 fn has_leading_zero(digits: &[u8]) -> bool
     ensures { result ≡ has_leading_zero digits.now }
 {
@@ -386,7 +490,7 @@ fn has_leading_zero(digits: &[u8]) -> bool
     }
 }
 
-/// What `i` and these digits stand for.
+/// Returns what `i` and these digits stand for.
 fn width_keyword(digits: &[u8]) -> Keyword
     requires { is_number digits.now ≡ true }
     ensures { result ≡ width_keyword digits.now }
@@ -399,7 +503,7 @@ fn width_keyword(digits: &[u8]) -> Keyword
     }
 }
 
-/// Whether the word is `i` and digits.
+/// Tells whether the word is `i` and digits.
 fn is_integer_word(word: &[u8]) -> bool
     ensures { result ≡ is_integer_word word.now }
 {
@@ -409,7 +513,7 @@ fn is_integer_word(word: &[u8]) -> bool
     }
 }
 
-/// What `i` and digits stand for.
+/// Returns what `i` and digits stand for.
 fn integer_keyword(word: &[u8]) -> Keyword
     requires { is_integer_word word.now ≡ true }
     ensures { result ≡ integer_keyword word.now }
@@ -420,39 +524,70 @@ fn integer_keyword(word: &[u8]) -> Keyword
     }
 }
 
-/// What a word of a module stands for.
+/// Proves that the keywords with a word of their own are those that the definitions list.
+#[tactic(auto, unfolding(crate::specs::Lists::language_keywords))]
+pub fn language_keywords_are_listed()
+    ensures { LANGUAGE_KEYWORDS ≡ language_keywords }
+{}
+
+/// Proves that the words that are dropped, with what they stand for, are those that the definitions list.
+#[tactic(auto, unfolding(crate::specs::Lists::dropped_words))]
+pub fn dropped_words_are_listed()
+    ensures { map (λ row. (row.0.now, row.1)) DROPPED_WORDS ≡ dropped_words }
+{}
+
+/// Proves that the words outside the language are those that the definitions list.
+#[tactic(auto, unfolding(crate::specs::Lists::outside_words))]
+pub fn outside_words_are_listed()
+    ensures { map (λ word. word.now) OUTSIDE_WORDS ≡ outside_words }
+{}
+
+/// Proves that no word stands twice in the lists, so that none has two meanings.
+#[tactic(auto, unfolding(crate::specs::Words::are_distinct, crate::specs::Words::is_among, crate::specs::Words::all_words, crate::specs::Lists::language_keywords, crate::specs::Lists::dropped_words, crate::specs::Lists::outside_words))]
+pub fn words_are_distinct()
+    ensures { are_distinct all_words ≡ true }
+{}
+
+/// Returns what a word of a module stands for, or `Other`.
 #[tactic(auto, unfolding(crate::specs::Words::language_word))]
 fn language_word(word: &[u8]) -> Keyword
     ensures { result ≡ language_word word.now }
 {
-    listed(&LANGUAGE_WORDS, word)
+    language_keywords_are_listed();
+    spelled_by(&LANGUAGE_KEYWORDS, word)
 }
 
-/// What a word that is dropped stands for.
+/// Returns what a word that is dropped stands for, or `Other`.
 #[tactic(auto, unfolding(crate::specs::Words::dropped_word))]
 fn dropped_word(word: &[u8]) -> Keyword
     ensures { result ≡ dropped_word word.now }
 {
+    dropped_words_are_listed();
     listed(&DROPPED_WORDS, word)
 }
 
-/// What a word that is outside the language stands for.
+/// Returns `Outside` for a word that is outside the language, and else `Other`.
 #[tactic(auto, unfolding(crate::specs::Words::outside_word))]
 fn outside_word(word: &[u8]) -> Keyword
     ensures { result ≡ outside_word word.now }
 {
-    listed(&OUTSIDE_WORDS, word)
+    outside_words_are_listed();
+    if is_among(&OUTSIDE_WORDS, word) {
+        Keyword::Outside
+    } else {
+        Keyword::Other
+    }
 }
 
-/// Whether the word stands for nothing.
+/// Tells whether the word stands for nothing.
 fn is_other(keyword: Keyword) -> bool
     ensures { result ≡ is_other keyword }
 {
     matches!(keyword, Keyword::Other)
 }
 
-/// What a word stands for: `i` and digits is an integer type or outside the language, and of any other
-/// word the tables tell.
+/// Returns what a word stands for: `i` and digits is an integer type or outside the language, and of any
+/// other word the tables tell.
 #[tactic(auto, unfolding(crate::specs::Words::keyword_of))]
 pub fn keyword_of(word: &[u8]) -> Keyword
     ensures { result ≡ keyword_of word.now }
@@ -471,49 +606,49 @@ pub fn keyword_of(word: &[u8]) -> Keyword
     outside_word(word)
 }
 
-/// Whether lines that begin with the word are dropped.
+/// Tells whether lines that begin with the word are dropped.
 pub fn is_header(keyword: Keyword) -> bool
     ensures { result ≡ is_header keyword }
 {
     matches!(keyword, Keyword::HeaderLine)
 }
 
-/// Whether a line that begins with the word may be a note to the optimizer.
+/// Tells whether a line that begins with the word may be a note to the optimizer.
 pub fn is_caller(keyword: Keyword) -> bool
     ensures { result ≡ is_caller keyword }
 {
     matches!(keyword, Keyword::Declare | Keyword::Call | Keyword::Tail)
 }
 
-/// Whether the word is `align`.
+/// Tells whether the word is `align`.
 pub fn is_align(keyword: Keyword) -> bool
     ensures { result ≡ is_align keyword }
 {
     matches!(keyword, Keyword::Align)
 }
 
-/// Whether the word is `comdat`.
+/// Tells whether the word is `comdat`.
 pub fn is_comdat(keyword: Keyword) -> bool
     ensures { result ≡ is_comdat keyword }
 {
     matches!(keyword, Keyword::Comdat)
 }
 
-/// Whether a group may follow the word, which is dropped with it.
+/// Tells whether a group may follow the word, which is dropped with it.
 pub fn is_group_word(keyword: Keyword) -> bool
     ensures { result ≡ is_group_word keyword }
 {
     matches!(keyword, Keyword::Group | Keyword::Comdat)
 }
 
-/// Whether the word is dropped alone.
+/// Tells whether the word is dropped alone.
 pub fn is_quiet_word(keyword: Keyword) -> bool
     ensures { result ≡ is_quiet_word keyword }
 {
     matches!(keyword, Keyword::Quiet | Keyword::Tail)
 }
 
-/// Whether the word is outside the language.
+/// Tells whether the word is outside the language.
 pub fn is_outside_word(keyword: Keyword) -> bool
     ensures { result ≡ is_outside_word keyword }
 {

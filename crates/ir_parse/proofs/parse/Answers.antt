@@ -6,9 +6,9 @@ use Rattle.ir_parse.proofs.parse.Goals as goal
 
 pub returns-in-Some-clause-reads : goal.returns-in-Some-clause-reads
 returns-in-Some-clause-reads c =
-    let last : c.in-Some.end ≡ c.in-Some.end - 1 + 1 = omega (arith, c.in-Some.ensures.behind) in (
+    let last : c.in-Some.end ≡ c.in-Some.end - 1 + 1 = omega (arith, c.in-Some.ensures.after) in (
       c.in-Some.end - 1,
-      omega (arith, c.in-Some.ensures.behind, c.in-Some.ensures.within),
+      omega (arith, c.in-Some.ensures.after, c.in-Some.ensures.within),
       c.place_of.ensures,
       subst (λ z. IsTooDeep 0 (take z (symbols_of c.args.text.now c.args.toks.now))) last (deep_at (symbols_of c.args.text.now c.args.toks.now) c.in-Some.end c.in-Some.ensures.deep),
     )
