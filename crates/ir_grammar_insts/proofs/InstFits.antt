@@ -17,9 +17,13 @@ use Rattle.ir_grammar_consts.proofs.TypeFits.{ty_fits}
 use Rattle.ir_grammar_consts.proofs.ConstFits.{const_fits}
 use Rattle.ir_grammar_insts.specs.Operands.{val, ty_val_of, ty_val, more_ty_val, TwoVals, two_vals}
 use Rattle.ir_grammar_insts.specs.Arithmetic.{wrap_flags, exact_flag, no_flags, Converted, converted}
-use Rattle.ir_grammar_insts.specs.Instructions.{phi_input_of, phi_input, InstHead, WrappingWord, ExactWord, PlainWord, IcmpWord, SelectWord, ExtendWord, TruncWord, FreezeWord, AllocaWord, LoadWord, StoreWord, ElementWord, CallWord, inst_head, inst_rest, inst}
+use Rattle.ir_grammar_insts.specs.Instructions.{phi_input_of, phi_input, inst_head, inst_rest, inst}
+use Rattle.ir_grammar_insts.specs.declared.heads.InstHead.{InstHead}
+use Rattle.ir_grammar_insts.specs.declared.heads.InstHead.TheVariants.{WrappingWord, ExactWord, PlainWord, IcmpWord, SelectWord, ExtendWord, TruncWord, FreezeWord, AllocaWord, LoadWord, StoreWord, ElementWord, CallWord}
 use Rattle.ir_grammar_insts.specs.Instructions as grammar
-use Rattle.ir_grammar_insts.specs.Terminators.{case_of, switch_case, TermHead, BrWord, SwitchWord, RetWord, UnreachableWord, term_rest, term}
+use Rattle.ir_grammar_insts.specs.Terminators.{case_of, switch_case, term_rest, term}
+use Rattle.ir_grammar_insts.specs.declared.heads.TermHead.{TermHead}
+use Rattle.ir_grammar_insts.specs.declared.heads.TermHead.TheVariants.{BrWord, SwitchWord, RetWord, UnreachableWord}
 use Rattle.ir_grammar_insts.specs.Spelling.{FitsVal, FitsTyVal, FitsTwo, FitsPhiInput, FitsCase, FitsFlags, FitsPhi, FitsInst, FitsTerm}
 
 all_of : {V : Type 0} (P : V → Type 0) (vs : List V) → Every P vs → All P vs

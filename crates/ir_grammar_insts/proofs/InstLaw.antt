@@ -10,7 +10,9 @@ use Rattle.ir_words.specs.declared.words.Keyword.TheVariants.{Phi, Select}
 use Rattle.ir_lex.specs.Symbols.{KeywordSymbol, MarkSymbol}
 use Rattle.ir_cursor.specs.Marks.{punct}
 use Rattle.ir_grammar_consts.proofs.TypeLaw.{good_ty, good_closed_by}
-use Rattle.ir_grammar_insts.specs.Instructions.{phi_word, phi_input, phi, InstHead, WrappingWord, ExactWord, PlainWord, IcmpWord, SelectWord, ExtendWord, TruncWord, FreezeWord, AllocaWord, LoadWord, StoreWord, ElementWord, CallWord, inst_head, inst_rest, inst, run_phi_input, run_phi, run_inst_rest, run_inst}
+use Rattle.ir_grammar_insts.specs.Instructions.{phi_word, phi_input, phi, inst_head, inst_rest, inst, run_phi_input, run_phi, run_inst_rest, run_inst}
+use Rattle.ir_grammar_insts.specs.declared.heads.InstHead.{InstHead}
+use Rattle.ir_grammar_insts.specs.declared.heads.InstHead.TheVariants.{WrappingWord, ExactWord, PlainWord, IcmpWord, SelectWord, ExtendWord, TruncWord, FreezeWord, AllocaWord, LoadWord, StoreWord, ElementWord, CallWord}
 use Rattle.ir_grammar_insts.proofs.OperandLaw.{good_before, good_comma, good_val, good_name}
 use Rattle.ir_grammar_insts.proofs.ArithmeticLaw.{good_wrapping_binary, good_exact_binary, good_plain_binary, good_icmp, good_select, good_extend, good_trunc, good_freeze}
 use Rattle.ir_grammar_insts.proofs.MemoryLaw.{good_alloca, good_load, good_store, good_get_element, good_call}

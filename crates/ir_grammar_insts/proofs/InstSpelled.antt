@@ -17,7 +17,8 @@ use Rattle.ir_grammar_consts.proofs.TypeSpelled.{closed, spelled_ty}
 use Rattle.ir_grammar_insts.specs.Operands.{asked, ty_val}
 use Rattle.ir_grammar_insts.specs.Arithmetic.{wrap_flags, exact_flag, no_flags, converted}
 use Rattle.ir_grammar_insts.specs.Memory.{counted, count_of}
-use Rattle.ir_grammar_insts.specs.Instructions.{phi_input, inst_head, inst, WrappingWord, ExactWord, PlainWord, IcmpWord, SelectWord, ExtendWord, TruncWord, FreezeWord, AllocaWord, LoadWord, StoreWord, ElementWord, CallWord}
+use Rattle.ir_grammar_insts.specs.Instructions.{phi_input, inst_head, inst}
+use Rattle.ir_grammar_insts.specs.declared.heads.InstHead.TheVariants.{WrappingWord, ExactWord, PlainWord, IcmpWord, SelectWord, ExtendWord, TruncWord, FreezeWord, AllocaWord, LoadWord, StoreWord, ElementWord, CallWord}
 use Rattle.ir_grammar_insts.specs.Instructions as grammar
 use Rattle.ir_grammar_insts.specs.Spelling.{bin_word, pred_word, flags_spelling, val_spelling, ty_val_spelling, more, in_a_row, with_commas, two_spelling, phi_input_spelling, count_written, count_spelling, body_spelling, FitsVal, FitsTyVal, FitsTwo, FitsPhiInput, FitsFlags, FitsPhi, FitsInst}
 use Rattle.ir_grammar_insts.proofs.OperandSpelled.{spelled_val, spelled_ty_val, spelled_more_ty_val, spelled_two, spelled_commas, spelled_items, spelled_listed, spelled_flag}

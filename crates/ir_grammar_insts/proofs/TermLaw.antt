@@ -15,7 +15,9 @@ use Rattle.ir_grammar_consts.specs.Types.{TyHead, WholeType, ty_head, ty_rest, t
 use Rattle.ir_grammar_consts.proofs.Sides.{punct_apart}
 use Rattle.ir_grammar_consts.proofs.TypeLaw.{starts_ty, good_ty, regular_ty}
 use Rattle.ir_grammar_insts.specs.Operands.{label, val, begins_val, ty_val}
-use Rattle.ir_grammar_insts.specs.Terminators.{void_word, more_target, two_ways, switch_case, switch, TermHead, BrWord, SwitchWord, RetWord, UnreachableWord, term_head, term_rest, term, run_more_target, run_two_ways, return_of, run_switch_case, run_switch, run_ret, run_term_rest, run_term}
+use Rattle.ir_grammar_insts.specs.Terminators.{void_word, more_target, two_ways, switch_case, switch, term_head, term_rest, term, run_more_target, run_two_ways, return_of, run_switch_case, run_switch, run_ret, run_term_rest, run_term}
+use Rattle.ir_grammar_insts.specs.declared.heads.TermHead.{TermHead}
+use Rattle.ir_grammar_insts.specs.declared.heads.TermHead.TheVariants.{BrWord, SwitchWord, RetWord, UnreachableWord}
 use Rattle.ir_grammar_insts.proofs.OperandLaw.{good_before, good_comma, good_val, starts_val, good_ty_val, starts_ty_val, good_target}
 use Rattle.ir_grammar_insts.proofs.Overlap.{opens_front, good_over}
 

@@ -4,7 +4,9 @@ use Rattle.grammar.specs.Language.{Mark, mark}
 use Rattle.ir_tree.specs.Shape.{BodyShape}
 use Rattle.ir_words.specs.declared.words.Keyword.TheVariants.{Br, Switch, Ret, Unreachable}
 use Rattle.ir_lex.specs.Symbols.{Symbol, KeywordSymbol}
-use Rattle.ir_grammar_insts.specs.Terminators.{TermHead, BrWord, SwitchWord, RetWord, UnreachableWord, term_head, term_rest, term, br_word, switch_word, ret_word, unreachable_word, term_lines}
+use Rattle.ir_grammar_insts.specs.Terminators.{term_head, term_rest, term, br_word, switch_word, ret_word, unreachable_word, term_lines}
+use Rattle.ir_grammar_insts.specs.declared.heads.TermHead.{TermHead}
+use Rattle.ir_grammar_insts.specs.declared.heads.TermHead.TheVariants.{BrWord, SwitchWord, RetWord, UnreachableWord}
 
 br_known : (t : Symbol) → term_head t ≡ Some BrWord → br_word t ≡ Some mark
 br_known (KeywordSymbol Br) e = refl

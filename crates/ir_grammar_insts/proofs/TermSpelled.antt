@@ -7,7 +7,8 @@ use Rattle.ir_lex.specs.Symbols.{Symbol, KeywordSymbol, NumberSymbol, MarkSymbol
 use Rattle.ir_grammar_consts.specs.Spelling.{ty_spelling}
 use Rattle.ir_grammar_consts.proofs.TypeSpelled.{spelled_ty}
 use Rattle.ir_grammar_insts.specs.Operands.{target}
-use Rattle.ir_grammar_insts.specs.Terminators.{more_target, switch_case, BrWord, SwitchWord, RetWord, UnreachableWord, term}
+use Rattle.ir_grammar_insts.specs.Terminators.{more_target, switch_case, term}
+use Rattle.ir_grammar_insts.specs.declared.heads.TermHead.TheVariants.{BrWord, SwitchWord, RetWord, UnreachableWord}
 use Rattle.ir_grammar_insts.specs.Spelling.{ty_val_spelling, more, in_a_row, target_spelling, case_spelling, body_spelling, FitsCase, FitsTerm}
 use Rattle.ir_grammar_insts.proofs.OperandSpelled.{spelled_ty_val, spelled_more, spelled_target, spelled_until}
 

@@ -18,9 +18,7 @@ use Rattle.grammar.specs.Language.{Lang, Mark, mark, pick, one, skip, seq, map_t
 use Rattle.grammar.specs.Reader.{Reader, heads, run_pick, run_one, run_skip, run_seq, run_map, run_many, run_up_to}
 use Rattle.ir_tree.specs.Shape.{ValShape, PhiInShape, BodyShape}
 use Rattle.ir_tree.specs.Shape as shape
-use Rattle.ir_tree.specs.declared.module.Bin.{Bin}
 use Rattle.ir_tree.specs.declared.module.Bin.TheVariants as bins
-use Rattle.ir_tree.specs.declared.module.Conv.{Conv}
 use Rattle.ir_tree.specs.declared.module.Conv.TheVariants as convs
 use Rattle.ir_words.specs.declared.words.Keyword.TheVariants.{Phi, Add, Sub, Mul, Shl, Udiv, Sdiv, Lshr, Ashr, Urem, Srem, And, Or, Xor, Icmp, Select, Zext, Sext, Trunc, Freeze, Alloca, Load, Store, GetElementPtr, Call}
 use Rattle.ir_lex.specs.Symbols.{Symbol, KeywordSymbol}
@@ -29,6 +27,8 @@ use Rattle.ir_grammar_consts.specs.Types.{ty, run_ty}
 use Rattle.ir_grammar_insts.specs.Operands.{local_name, val, run_val}
 use Rattle.ir_grammar_insts.specs.Arithmetic.{wrapping_binary, exact_binary, plain_binary, icmp, select, extend, trunc, freeze, run_wrapping_binary, run_exact_binary, run_plain_binary, run_icmp, run_select, run_extend, run_trunc, run_freeze}
 use Rattle.ir_grammar_insts.specs.Memory.{alloca, load, store, get_element, call, run_alloca, run_load, run_store, run_get_element, run_call}
+use Rattle.ir_grammar_insts.specs.declared.heads.InstHead.{InstHead}
+use Rattle.ir_grammar_insts.specs.declared.heads.InstHead.TheVariants.{WrappingWord, ExactWord, PlainWord, IcmpWord, SelectWord, ExtendWord, TruncWord, FreezeWord, AllocaWord, LoadWord, StoreWord, ElementWord, CallWord}
 
 -- `phi`
 abbrev pub phi_word : Symbol → Option Mark
@@ -45,22 +45,6 @@ phi_input = skip (punct 91) (up_to (punct 93) (map_to phi_input_of (seq val (ski
 -- phi = "phi" ty "[" val "," Local "]" { "," "[" val "," Local "]" }
 abbrev pub phi : Lang Symbol BodyShape
 phi = skip phi_word (map_to (λ v. shape.phi v.0 v.1) (seq ty (items (punct 44) phi_input)))
-
--- what the first word of an instruction says of it
-pub data InstHead : Type 0 where
-  WrappingWord : (operation : Bin) → InstHead
-  ExactWord : (operation : Bin) → InstHead
-  PlainWord : (operation : Bin) → InstHead
-  IcmpWord : InstHead
-  SelectWord : InstHead
-  ExtendWord : (conversion : Conv) → InstHead
-  TruncWord : InstHead
-  FreezeWord : InstHead
-  AllocaWord : InstHead
-  LoadWord : InstHead
-  StoreWord : InstHead
-  ElementWord : InstHead
-  CallWord : InstHead
 
 abbrev pub inst_head : Symbol → Option InstHead
 inst_head (KeywordSymbol Add) = Some (WrappingWord bins.Add)

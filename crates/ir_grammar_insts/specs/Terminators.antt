@@ -13,6 +13,8 @@ use Rattle.ir_lex.specs.Symbols.{Symbol, KeywordSymbol, number_in}
 use Rattle.ir_cursor.specs.Marks.{punct}
 use Rattle.ir_grammar_consts.specs.Types.{ty, run_ty}
 use Rattle.ir_grammar_insts.specs.Operands.{label, ty_val, target, begins_val, run_val, run_ty_val, run_target}
+use Rattle.ir_grammar_insts.specs.declared.heads.TermHead.{TermHead}
+use Rattle.ir_grammar_insts.specs.declared.heads.TermHead.TheVariants.{BrWord, SwitchWord, RetWord, UnreachableWord}
 
 -- `void`
 abbrev pub void_word : Symbol → Option Mark
@@ -43,13 +45,6 @@ switch_of v = shape.switch v.0 v.1.0 v.1.1
 
 abbrev pub switch : Lang Symbol BodyShape
 switch = map_to switch_of (seq ty_val (seq more_target (skip (punct 91) (until (punct 93) switch_case))))
-
--- what the first word of a terminator says of it
-pub data TermHead : Type 0 where
-  BrWord : TermHead
-  SwitchWord : TermHead
-  RetWord : TermHead
-  UnreachableWord : TermHead
 
 abbrev pub term_head : Symbol → Option TermHead
 term_head (KeywordSymbol Br) = Some BrWord

@@ -15,6 +15,10 @@ ghost use Rattle.ir_grammar_insts.specs.Terminators.{term, term_lines, run_term}
 ghost use Rattle.ir_grammar_insts.specs.OpenRules.{ReadsOpen};
 ghost use Rattle.ir_grammar_insts.specs.Spelling.{body_spelling, FitsPhi, FitsInst, FitsTerm};
 
+mod heads;
+
+pub use heads::{InstHead, TermHead};
+
 /// States that the reader of phis finds the first wrong symbol, and gives the phi that those before it spell.
 /// It gives none only where no front of the symbols spells one without a comma after it.
 pub fn phis_are_read()

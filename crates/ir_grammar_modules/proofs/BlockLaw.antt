@@ -13,7 +13,8 @@ use Rattle.ir_cursor.specs.Marks.{punct}
 use Rattle.ir_grammar_consts.proofs.TypeLaw.{good_closed_by}
 use Rattle.ir_grammar_insts.specs.Operands.{local_name, begins_val}
 use Rattle.ir_grammar_insts.specs.Instructions.{phi_word, phi, inst_head, inst}
-use Rattle.ir_grammar_insts.specs.Terminators.{UnreachableWord, term_head}
+use Rattle.ir_grammar_insts.specs.Terminators.{term_head}
+use Rattle.ir_grammar_insts.specs.declared.heads.TermHead.TheVariants.{UnreachableWord}
 use Rattle.ir_grammar_insts.proofs.OperandLaw.{good_before, good_name}
 use Rattle.ir_grammar_insts.proofs.InstLaw.{good_phi, good_inst}
 use Rattle.ir_grammar_insts.proofs.TermLaw.{good_term}

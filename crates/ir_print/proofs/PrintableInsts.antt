@@ -21,9 +21,13 @@ use Rattle.ir_grammar_consts.proofs.Values.{Every}
 use Rattle.ir_grammar_insts.specs.Operands.{local_name, global_name, predicate, into, val, ty_val_of, ty_val, more_ty_val, TwoVals, two_vals, label, target}
 use Rattle.ir_grammar_insts.specs.Arithmetic.{wrap_flags, exact_flag, no_flags, binary_of, icmp_of, select_of, Converted, converted, convert_of}
 use Rattle.ir_grammar_insts.specs.Memory.{count_of, counted, alloca_of, Element, element_of, Called, call_of}
-use Rattle.ir_grammar_insts.specs.Instructions.{phi_word, phi_input_of, phi_input, InstHead, WrappingWord, ExactWord, PlainWord, IcmpWord, SelectWord, ExtendWord, TruncWord, FreezeWord, AllocaWord, LoadWord, StoreWord, ElementWord, CallWord, inst_rest, inst}
+use Rattle.ir_grammar_insts.specs.Instructions.{phi_word, phi_input_of, phi_input, inst_rest, inst}
+use Rattle.ir_grammar_insts.specs.declared.heads.InstHead.{InstHead}
+use Rattle.ir_grammar_insts.specs.declared.heads.InstHead.TheVariants.{WrappingWord, ExactWord, PlainWord, IcmpWord, SelectWord, ExtendWord, TruncWord, FreezeWord, AllocaWord, LoadWord, StoreWord, ElementWord, CallWord}
 use Rattle.ir_grammar_insts.specs.Instructions as grammar
-use Rattle.ir_grammar_insts.specs.Terminators.{void_word, more_target, branch_of, two_ways, case_of, switch_case, switch_of, TermHead, BrWord, SwitchWord, RetWord, UnreachableWord, term_rest, term}
+use Rattle.ir_grammar_insts.specs.Terminators.{void_word, more_target, branch_of, two_ways, case_of, switch_case, switch_of, term_rest, term}
+use Rattle.ir_grammar_insts.specs.declared.heads.TermHead.{TermHead}
+use Rattle.ir_grammar_insts.specs.declared.heads.TermHead.TheVariants.{BrWord, SwitchWord, RetWord, UnreachableWord}
 use Rattle.ir_grammar_insts.specs.Spelling.{bin_word, pred_word, conv_word, flag_word, flags_spelling, val_spelling, ty_val_spelling, more, two_spelling, target_spelling, phi_input_spelling, case_spelling, count_spelling, count_written, body_spelling, in_a_row, with_commas}
 use Rattle.ir_print_consts.proofs.PrintableTypes.{Carries, tail_of, printable_both, carries_many, carries_skip, carries_listed, IsTyPrintable, ty_printable}
 use Rattle.ir_print_consts.proofs.PrintableConsts.{IsConstPrintable, const_printable, flag_printable}

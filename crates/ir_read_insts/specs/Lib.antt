@@ -1,3 +1,2 @@
 pub mod InstHeads
 pub mod Operands
-pub mod TermHeads

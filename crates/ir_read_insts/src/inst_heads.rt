@@ -1,49 +1,19 @@
 //! The tokens that tell what an instruction is, and its flags.
 
-ghost use Rattle.std.specs.Prelude.{◌≡◌, ◌+◌, ◌≤◌, true, false, length, drop, option_map, IfOk, MatchOption};
+ghost use Rattle.std.specs.Prelude.{◌≡◌, ◌+◌, ◌≤◌, true, false, length, drop, IfOk, MatchOption};
 ghost use Rattle.grammar.specs.Reader.{Got, heads, opens, run_one};
 ghost use Rattle.grammar.specs.Code.{Gives, Steps};
 ghost use Rattle.ir_lex.specs.Symbols.{KeywordSymbol, symbols_of};
 ghost use Rattle.ir_grammar_insts.specs.Operands.{asked, into};
 ghost use Rattle.ir_grammar_insts.specs.Arithmetic.{wrap_flag, run_wrap_flags, run_exact_flag};
 ghost use Rattle.ir_grammar_insts.specs.Instructions.{phi_word, inst_head};
-ghost use Rattle.ir_read_insts.specs.InstHeads.{head_from, with_flag};
+ghost use Rattle.ir_read_insts.specs.InstHeads.{with_flag};
 
 use grammar::Stop;
 use ir_cursor::{Meaning, meaning_at};
+use ir_grammar_insts::InstHead;
 use ir_lex::{Keyword, Token};
 use ir_tree::module::{Bin, Conv, Flags, Pred};
-
-/// What the first token of an instruction says of it.
-#[derive(Clone, Copy, Debug)]
-pub enum Head {
-    /// An operation with the flags `nuw` and `nsw`.
-    Wrapping(Bin),
-    /// An operation with the flag `exact`.
-    Exact(Bin),
-    /// An operation without flags.
-    Plain(Bin),
-    /// `icmp`.
-    Icmp,
-    /// `select`.
-    Select,
-    /// `zext` or `sext`.
-    Extend(Conv),
-    /// `trunc`.
-    Trunc,
-    /// `freeze`.
-    Freeze,
-    /// `alloca`.
-    Alloca,
-    /// `load`.
-    Load,
-    /// `store`.
-    Store,
-    /// `getelementptr`.
-    Element,
-    /// `call`.
-    Call,
-}
 
 /// No flag.
 pub const NO_FLAGS: Flags = Flags {
@@ -53,34 +23,34 @@ pub const NO_FLAGS: Flags = Flags {
 };
 
 /// Returns the head that a word is.
-fn head_of(word: Keyword) -> Option<Head>
-    ensures { option_map head_from result ≡ inst_head (KeywordSymbol word) }
+fn head_of(word: Keyword) -> Option<InstHead>
+    ensures { result ≡ inst_head (KeywordSymbol word) }
 {
     Some(match word {
-        Keyword::Add => Head::Wrapping(Bin::Add),
-        Keyword::Sub => Head::Wrapping(Bin::Sub),
-        Keyword::Mul => Head::Wrapping(Bin::Mul),
-        Keyword::Shl => Head::Wrapping(Bin::Shl),
-        Keyword::Udiv => Head::Exact(Bin::Udiv),
-        Keyword::Sdiv => Head::Exact(Bin::Sdiv),
-        Keyword::Lshr => Head::Exact(Bin::Lshr),
-        Keyword::Ashr => Head::Exact(Bin::Ashr),
-        Keyword::Urem => Head::Plain(Bin::Urem),
-        Keyword::Srem => Head::Plain(Bin::Srem),
-        Keyword::And => Head::Plain(Bin::And),
-        Keyword::Or => Head::Plain(Bin::Or),
-        Keyword::Xor => Head::Plain(Bin::Xor),
-        Keyword::Icmp => Head::Icmp,
-        Keyword::Select => Head::Select,
-        Keyword::Zext => Head::Extend(Conv::Zext),
-        Keyword::Sext => Head::Extend(Conv::Sext),
-        Keyword::Trunc => Head::Trunc,
-        Keyword::Freeze => Head::Freeze,
-        Keyword::Alloca => Head::Alloca,
-        Keyword::Load => Head::Load,
-        Keyword::Store => Head::Store,
-        Keyword::GetElementPtr => Head::Element,
-        Keyword::Call => Head::Call,
+        Keyword::Add => InstHead::WrappingWord(Bin::Add),
+        Keyword::Sub => InstHead::WrappingWord(Bin::Sub),
+        Keyword::Mul => InstHead::WrappingWord(Bin::Mul),
+        Keyword::Shl => InstHead::WrappingWord(Bin::Shl),
+        Keyword::Udiv => InstHead::ExactWord(Bin::Udiv),
+        Keyword::Sdiv => InstHead::ExactWord(Bin::Sdiv),
+        Keyword::Lshr => InstHead::ExactWord(Bin::Lshr),
+        Keyword::Ashr => InstHead::ExactWord(Bin::Ashr),
+        Keyword::Urem => InstHead::PlainWord(Bin::Urem),
+        Keyword::Srem => InstHead::PlainWord(Bin::Srem),
+        Keyword::And => InstHead::PlainWord(Bin::And),
+        Keyword::Or => InstHead::PlainWord(Bin::Or),
+        Keyword::Xor => InstHead::PlainWord(Bin::Xor),
+        Keyword::Icmp => InstHead::IcmpWord,
+        Keyword::Select => InstHead::SelectWord,
+        Keyword::Zext => InstHead::ExtendWord(Conv::Zext),
+        Keyword::Sext => InstHead::ExtendWord(Conv::Sext),
+        Keyword::Trunc => InstHead::TruncWord,
+        Keyword::Freeze => InstHead::FreezeWord,
+        Keyword::Alloca => InstHead::AllocaWord,
+        Keyword::Load => InstHead::LoadWord,
+        Keyword::Store => InstHead::StoreWord,
+        Keyword::GetElementPtr => InstHead::ElementWord,
+        Keyword::Call => InstHead::CallWord,
         _ => return None,
     })
 }
@@ -93,9 +63,9 @@ pub fn is_inst_word(word: Keyword) -> bool
 }
 
 /// Reads the head of the instruction at token `at`. Returns it and the number of the next token.
-pub fn head_at(text: &[u8], toks: &[Token], at: usize) -> Result<(Head, usize), Stop>
+pub fn head_at(text: &[u8], toks: &[Token], at: usize) -> Result<(InstHead, usize), Stop>
     requires { at ≤ length (symbols_of text.now toks.now) }
-    ensures reads { Gives head_from (symbols_of text.now toks.now) result
+    ensures reads { Gives (λ head. head) (symbols_of text.now toks.now) result
         (run_one inst_head (drop at (symbols_of text.now toks.now))) }
     ensures next { IfOk result (λ x. x.1 ≡ at + 1) }
 {

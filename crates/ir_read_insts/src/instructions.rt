@@ -7,14 +7,14 @@ ghost use Rattle.ir_tree.specs.NameTable.{Grows};
 ghost use Rattle.ir_tree.specs.ShapeOf.{body_shape};
 ghost use Rattle.ir_tree.specs.Known.{body_known};
 ghost use Rattle.ir_grammar_insts.specs.Instructions.{run_inst, run_inst_rest};
-ghost use Rattle.ir_read_insts.specs.InstHeads.{head_from};
 
 use crate::arithmetic::{
     exact_binary_at, extend_at, freeze_at, icmp_at, plain_at, select_at, trunc_at, wrapping_at,
 };
-use crate::inst_heads::{Head, head_at};
+use crate::inst_heads::head_at;
 use crate::memory::{alloca_at, call_at, element_at, load_at, store_at};
 use grammar::Stop;
+use ir_grammar_insts::InstHead;
 use ir_lex::Token;
 use ir_tree::module::Body;
 use ir_tree::names::Names;
@@ -49,7 +49,7 @@ fn rest_at(
     toks: &[Token],
     at: usize,
     budget: usize,
-    head: Head,
+    head: InstHead,
     names: &mut Names,
 ) -> Result<(Body, usize), Stop>
     requires within { at ≤ length (symbols_of text.now toks.now) }
@@ -58,21 +58,27 @@ fn rest_at(
     ensures count { IfOk result (λ x. length names.new + at ≤ length names.old + x.1) }
     ensures known { IfOk result (λ x. body_known (length names.new) x.0 ≡ true) }
     ensures reads { Gives (body_shape names.new) (symbols_of text.now toks.now) result
-        (run_inst_rest budget (head_from head) (drop at (symbols_of text.now toks.now))) }
+        (run_inst_rest budget head (drop at (symbols_of text.now toks.now))) }
 {
     match head {
-        Head::Wrapping(operation) => wrapping_at(alloc, text, toks, at, budget, operation, names),
-        Head::Exact(operation) => exact_binary_at(alloc, text, toks, at, budget, operation, names),
-        Head::Plain(operation) => plain_at(alloc, text, toks, at, budget, operation, names),
-        Head::Icmp => icmp_at(alloc, text, toks, at, budget, names),
-        Head::Select => select_at(alloc, text, toks, at, budget, names),
-        Head::Extend(conversion) => extend_at(alloc, text, toks, at, budget, conversion, names),
-        Head::Trunc => trunc_at(alloc, text, toks, at, budget, names),
-        Head::Freeze => freeze_at(alloc, text, toks, at, budget, names),
-        Head::Alloca => alloca_at(alloc, text, toks, at, budget, names),
-        Head::Load => load_at(alloc, text, toks, at, budget, names),
-        Head::Store => store_at(alloc, text, toks, at, budget, names),
-        Head::Element => element_at(alloc, text, toks, at, budget, names),
-        Head::Call => call_at(alloc, text, toks, at, budget, names),
+        InstHead::WrappingWord(operation) => wrapping_at(
+            alloc, text, toks, at, budget, operation, names,
+        ),
+        InstHead::ExactWord(operation) => exact_binary_at(
+            alloc, text, toks, at, budget, operation, names,
+        ),
+        InstHead::PlainWord(operation) => plain_at(alloc, text, toks, at, budget, operation, names),
+        InstHead::IcmpWord => icmp_at(alloc, text, toks, at, budget, names),
+        InstHead::SelectWord => select_at(alloc, text, toks, at, budget, names),
+        InstHead::ExtendWord(conversion) => extend_at(
+            alloc, text, toks, at, budget, conversion, names,
+        ),
+        InstHead::TruncWord => trunc_at(alloc, text, toks, at, budget, names),
+        InstHead::FreezeWord => freeze_at(alloc, text, toks, at, budget, names),
+        InstHead::AllocaWord => alloca_at(alloc, text, toks, at, budget, names),
+        InstHead::LoadWord => load_at(alloc, text, toks, at, budget, names),
+        InstHead::StoreWord => store_at(alloc, text, toks, at, budget, names),
+        InstHead::ElementWord => element_at(alloc, text, toks, at, budget, names),
+        InstHead::CallWord => call_at(alloc, text, toks, at, budget, names),
     }
 }

@@ -6,37 +6,24 @@ ghost use Rattle.grammar.specs.Code.{Gives, Tries};
 ghost use Rattle.ir_lex.specs.Symbols.{symbols_of};
 ghost use Rattle.ir_grammar_insts.specs.Operands.{begins_val};
 ghost use Rattle.ir_grammar_insts.specs.Terminators.{term_head, void_word};
-ghost use Rattle.ir_read_insts.specs.TermHeads.{head_from};
 
 use grammar::Stop;
 use ir_cursor::{Meaning, meaning_at};
+use ir_grammar_insts::TermHead;
 use ir_lex::{Keyword, Token};
 
-/// What the first word of a terminator says of it.
-#[derive(Clone, Copy, Debug)]
-pub enum Head {
-    /// `br`.
-    Br,
-    /// `switch`.
-    Switch,
-    /// `ret`.
-    Ret,
-    /// `unreachable`.
-    Unreachable,
-}
-
 /// Reads the head of the terminator at token `at`. Returns it and the number of the next token.
-pub fn head_at(text: &[u8], toks: &[Token], at: usize) -> Result<(Head, usize), Stop>
+pub fn head_at(text: &[u8], toks: &[Token], at: usize) -> Result<(TermHead, usize), Stop>
     requires { at ≤ length (symbols_of text.now toks.now) }
-    ensures reads { Gives head_from (symbols_of text.now toks.now) result
+    ensures reads { Gives (λ head. head) (symbols_of text.now toks.now) result
         (run_one term_head (drop at (symbols_of text.now toks.now))) }
     ensures next { IfOk result (λ x. x.1 ≡ at + 1) }
 {
     match meaning_at(text, toks, at) {
-        Some(Meaning::Keyword(Keyword::Br)) => Ok((Head::Br, at + 1)),
-        Some(Meaning::Keyword(Keyword::Switch)) => Ok((Head::Switch, at + 1)),
-        Some(Meaning::Keyword(Keyword::Ret)) => Ok((Head::Ret, at + 1)),
-        Some(Meaning::Keyword(Keyword::Unreachable)) => Ok((Head::Unreachable, at + 1)),
+        Some(Meaning::Keyword(Keyword::Br)) => Ok((TermHead::BrWord, at + 1)),
+        Some(Meaning::Keyword(Keyword::Switch)) => Ok((TermHead::SwitchWord, at + 1)),
+        Some(Meaning::Keyword(Keyword::Ret)) => Ok((TermHead::RetWord, at + 1)),
+        Some(Meaning::Keyword(Keyword::Unreachable)) => Ok((TermHead::UnreachableWord, at + 1)),
         _ => Err(Stop::WrongSymbol(at)),
     }
 }

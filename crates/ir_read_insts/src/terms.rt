@@ -10,13 +10,14 @@ ghost use Rattle.ir_tree.specs.NameTable.{Grows};
 ghost use Rattle.ir_tree.specs.ShapeOf.{body_shape, case_shape};
 ghost use Rattle.ir_tree.specs.Known.{body_known, case_known};
 ghost use Rattle.ir_grammar_insts.specs.Operands.{begins_val, run_val};
-ghost use Rattle.ir_grammar_insts.specs.Terminators.{BrWord, return_of, run_ret, run_switch, run_switch_case, run_term, run_term_rest, run_two_ways};
-ghost use Rattle.ir_read_insts.specs.TermHeads.{head_from};
+ghost use Rattle.ir_grammar_insts.specs.declared.heads.TermHead.TheVariants.{BrWord};
+ghost use Rattle.ir_grammar_insts.specs.Terminators.{return_of, run_ret, run_switch, run_switch_case, run_term, run_term_rest, run_two_ways};
 
-use crate::term_heads::{Head, after_void, begins_value, head_at};
+use crate::term_heads::{after_void, begins_value, head_at};
 use crate::{after_label, integer_at, local_at, more_target_at, ty_val_at, val_at};
 use grammar::Stop;
 use ir_cursor::{after_mark, mark_at};
+use ir_grammar_insts::TermHead;
 use ir_lex::Token;
 use ir_read_consts::type_at;
 use ir_tree::module::{Body, Case, TyVal};
@@ -53,7 +54,7 @@ fn rest_at(
     toks: &[Token],
     at: usize,
     budget: usize,
-    head: Head,
+    head: TermHead,
     names: &mut Names,
 ) -> Result<(Body, usize), Stop>
     requires within { at ≤ length (symbols_of text.now toks.now) }
@@ -62,13 +63,13 @@ fn rest_at(
     ensures count { IfOk result (λ x. length names.new + at ≤ length names.old + x.1) }
     ensures known { IfOk result (λ x. body_known (length names.new) x.0 ≡ true) }
     ensures reads { Gives (body_shape names.new) (symbols_of text.now toks.now) result
-        (run_term_rest budget (head_from head) (drop at (symbols_of text.now toks.now))) }
+        (run_term_rest budget head (drop at (symbols_of text.now toks.now))) }
 {
     match head {
-        Head::Br => branch_at(alloc, text, toks, at, budget, names),
-        Head::Switch => switch_at(alloc, text, toks, at, budget, names),
-        Head::Ret => return_at(alloc, text, toks, at, budget, names),
-        Head::Unreachable => Ok((Body::Unreachable, at)),
+        TermHead::BrWord => branch_at(alloc, text, toks, at, budget, names),
+        TermHead::SwitchWord => switch_at(alloc, text, toks, at, budget, names),
+        TermHead::RetWord => return_at(alloc, text, toks, at, budget, names),
+        TermHead::UnreachableWord => Ok((Body::Unreachable, at)),
     }
 }
 

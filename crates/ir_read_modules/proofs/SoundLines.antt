@@ -10,8 +10,12 @@ use Rattle.ir_grammar_consts.proofs.TypeLaw.{regular_ty}
 use Rattle.ir_grammar_consts.proofs.ConstLaw.{regular_const}
 use Rattle.ir_grammar_insts.specs.Operands.{local_name, global_name, label, into, asked, val, ty_val, more_ty_val, two_vals, target, begins_val, run_val, run_ty_val, run_more_ty_val, run_two_vals, run_target}
 use Rattle.ir_grammar_insts.specs.Arithmetic.{wrap_flag, exact, wrapping, exactly, wrap_flags, converted, run_wrap_flags, run_converted}
-use Rattle.ir_grammar_insts.specs.Instructions.{phi_word, phi_input, phi, InstHead, WrappingWord, ExactWord, PlainWord, IcmpWord, SelectWord, ExtendWord, TruncWord, FreezeWord, AllocaWord, LoadWord, StoreWord, ElementWord, CallWord, inst_head, inst_rest, inst, run_phi_input, run_phi, run_inst_rest, run_inst}
-use Rattle.ir_grammar_insts.specs.Terminators.{void_word, more_target, switch_case, TermHead, BrWord, SwitchWord, RetWord, UnreachableWord, term_head, term_rest, term, run_more_target, run_switch_case, run_ret, run_term_rest, run_term}
+use Rattle.ir_grammar_insts.specs.Instructions.{phi_word, phi_input, phi, inst_head, inst_rest, inst, run_phi_input, run_phi, run_inst_rest, run_inst}
+use Rattle.ir_grammar_insts.specs.declared.heads.InstHead.{InstHead}
+use Rattle.ir_grammar_insts.specs.declared.heads.InstHead.TheVariants.{WrappingWord, ExactWord, PlainWord, IcmpWord, SelectWord, ExtendWord, TruncWord, FreezeWord, AllocaWord, LoadWord, StoreWord, ElementWord, CallWord}
+use Rattle.ir_grammar_insts.specs.Terminators.{void_word, more_target, switch_case, term_head, term_rest, term, run_more_target, run_switch_case, run_ret, run_term_rest, run_term}
+use Rattle.ir_grammar_insts.specs.declared.heads.TermHead.{TermHead}
+use Rattle.ir_grammar_insts.specs.declared.heads.TermHead.TheVariants.{BrWord, SwitchWord, RetWord, UnreachableWord}
 use Rattle.ir_grammar_insts.proofs.TermLaw.{ret_into}
 use Rattle.ir_grammar_modules.specs.Blocks.{result, line_of, phi_line, inst_line, run_result, run_inst_line}
 use Rattle.ir_read_modules.specs.Lines.{run_phi_line}
