@@ -28,8 +28,16 @@ pub struct Draft {
 impl Draft {
     /// Makes a table without items.
     pub fn new(alloc: Global) -> Draft
-        ensures shape { (names : List (List ℕ)) → draft_shape names result ≡ record { types = []; globals = []; declares = []; functions = [] } }
-        ensures spots { lists_of result.spots ≡ record { types = []; globals = []; declares = []; functions = []; insts = [] } }
+        ensures shape { (names : List (List ℕ)) →
+            draft_shape names result ≡ record {
+              types = [];
+              globals = [];
+              declares = [];
+              functions =
+                  [];
+            } }
+        ensures spots { lists_of result.spots ≡ record
+            { types = []; globals = []; declares = []; functions = []; insts = [] } }
         ensures known { (count : ℕ) → draft_known count result ≡ true }
     {
         Draft {
@@ -53,7 +61,8 @@ impl Draft {
             (draft_shape names self.new ≡ with_last (item_shape names item) (draft_shape names self.old)) }
         ensures spots { (names : List (List ℕ)) → OnOk result
             (lists_of self.new.spots ≡ with_last_spot (item_shape names item) (record { spot = spot; lines = item_lines item }) (lists_of self.old.spots)) }
-        ensures known { (count : ℕ) → draft_known count self.old ≡ true → item_known count item ≡ true → OnOk result (draft_known count self.new ≡ true) }
+        ensures known { (count : ℕ) → draft_known count self.old ≡ true →
+            item_known count item ≡ true → OnOk result (draft_known count self.new ≡ true) }
     {
         match item {
             Item::Named(item) => {

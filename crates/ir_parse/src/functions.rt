@@ -125,7 +125,8 @@ fn more_blocks_at(
     ensures known { IfOk result (λ x. blocks_known (length names.new) x.0 ≡ true) }
     ensures reads { Gives (blocks_shape names.new) (symbols_of text.now toks.now) result
         (run_until budget (punct 125) (run_block budget) (drop at (symbols_of text.now toks.now))) }
-    ensures spots { IfOk result (λ x. IsBodyAt text.now (slice_range toks.now at x.1) (blocks_shape names.new x.0) (block_spots x.0)) }
+    ensures spots { IfOk result (λ x. IsBodyAt text.now (slice_range toks.now at x.1)
+        (blocks_shape names.new x.0) (block_spots x.0)) }
 {
     let mut blocks = Vec::new(alloc);
     let mut spots = Vec::new(alloc);
@@ -165,7 +166,8 @@ fn blocks_at(
     ensures reads { Gives (blocks_shape names.new) (symbols_of text.now toks.now) result
         (run_map (blocks_of (map (param_shape names.old) params.now)) (run_blocks budget)
         (drop at (symbols_of text.now toks.now))) }
-    ensures spots { IfOk result (λ x. IsBodyAt text.now (slice_range toks.now at x.1) (blocks_shape names.new x.0) (block_spots x.0)) }
+    ensures spots { IfOk result (λ x. IsBodyAt text.now (slice_range toks.now at x.1)
+        (blocks_shape names.new x.0) (block_spots x.0)) }
 {
     let (entry, after_entry) = entry_at(alloc, text, toks, at, budget, names)?;
     let EntryBlock { label, lines } = entry;
@@ -201,7 +203,8 @@ pub fn function_line_at(
     ensures known { IfOk result (λ x. spotted_function_known (length names.new) x.0 ≡ true) }
     ensures reads { Gives (spotted_function_shape names.new) (symbols_of text.now toks.now) result
         (run_function budget (drop at (symbols_of text.now toks.now))) }
-    ensures spots { IfOk result (λ x. IsFunctionAt text.now (slice_range toks.now at x.1) (function_of_shape names.new x.0) (map (λ v. v.items) x.0.spots.items)) }
+    ensures spots { IfOk result (λ x. IsFunctionAt text.now (slice_range toks.now at x.1)
+        (function_of_shape names.new x.0) (map (λ v. v.items) x.0.spots.items)) }
 {
     let after_word = define_at(text, toks, at)?;
     let (signature, after_signature) = signature_at(alloc, text, toks, after_word, budget, names)?;

@@ -63,7 +63,8 @@ pub fn item_at(
     ensures known { IfOk result (λ x. item_known (length names.new) x.0 ≡ true) }
     ensures reads { Gives (item_shape names.new) (symbols_of text.now toks.now) result
         (run_item budget (drop at (symbols_of text.now toks.now))) }
-    ensures spots { IfOk result (λ x. HasLinesAt text.now (slice_range toks.now at x.1) (item_shape names.new x.0) (item_lines x.0)) }
+    ensures spots { IfOk result (λ x. HasLinesAt text.now (slice_range toks.now at x.1)
+        (item_shape names.new x.0) (item_lines x.0)) }
 {
     match meaning_at(text, toks, at) {
         Some(Meaning::Local(_)) => {

@@ -35,7 +35,8 @@ fn items_at(
     ensures known { IfOk result (λ x. draft_known (length names.new) x.0 ≡ true) }
     ensures reads { Gives (draft_shape names.new) (symbols_of text.now toks.now) result
         (run_module (length toks.now) (symbols_of text.now toks.now)) }
-    ensures spots { IfOk result (λ x. AreSpots text.now (slice_range toks.now 0 x.1) (draft_shape names.new x.0) x.0.spots) }
+    ensures spots { IfOk result (λ x. AreSpots text.now (slice_range toks.now 0 x.1)
+        (draft_shape names.new x.0) x.0.spots) }
 {
     let mut draft = Draft::new(alloc);
     let mut next = 0;

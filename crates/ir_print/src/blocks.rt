@@ -51,7 +51,8 @@ fn push_body(names: &Names, body: &Body, to: &mut Vec<u8>) -> Result<(), AllocEr
 
 /// Appends the name of a result and `=`, if there is one.
 fn push_result(names: &Names, named: Option<NameId>, to: &mut Vec<u8>) -> Result<(), AllocError>
-    ensures { OnOk result (to.new.items ≡ to.old.items ++ result_text (option_map (name_shape names.now) named)) }
+    ensures { OnOk result (to.new.items ≡ to.old.items
+        ++ result_text (option_map (name_shape names.now) named)) }
 {
     match named {
         None => Ok(()),
@@ -76,7 +77,8 @@ fn push_line(names: &Names, inst: &Inst, to: &mut Vec<u8>) -> Result<(), AllocEr
 
 /// Appends the lines of a block.
 fn push_lines(names: &Names, insts: &[Inst], to: &mut Vec<u8>) -> Result<(), AllocError>
-    ensures { OnOk result (to.new.items ≡ to.old.items ++ flat_map line_text (map (inst_shape names.now) insts.now)) }
+    ensures { OnOk result (to.new.items ≡ to.old.items
+        ++ flat_map line_text (map (inst_shape names.now) insts.now)) }
 {
     for inst in insts {
         push_line(names, inst, to)?;
@@ -86,7 +88,8 @@ fn push_lines(names: &Names, insts: &[Inst], to: &mut Vec<u8>) -> Result<(), All
 
 /// Appends a block: its label, and its lines.
 fn push_block(names: &Names, block: &Block, to: &mut Vec<u8>) -> Result<(), AllocError>
-    ensures { OnOk result (to.new.items ≡ to.old.items ++ block_text (block_shape names.now block.now)) }
+    ensures { OnOk result (to.new.items ≡ to.old.items
+        ++ block_text (block_shape names.now block.now)) }
 {
     push_label_name(names, block.name, to)?;
     to.push(b'\n')?;
@@ -96,7 +99,8 @@ fn push_block(names: &Names, block: &Block, to: &mut Vec<u8>) -> Result<(), Allo
 
 /// Appends blocks.
 pub fn push_blocks(names: &Names, blocks: &[Block], to: &mut Vec<u8>) -> Result<(), AllocError>
-    ensures { OnOk result (to.new.items ≡ to.old.items ++ flat_map block_text (map (block_shape names.now) blocks.now)) }
+    ensures { OnOk result (to.new.items ≡ to.old.items
+        ++ flat_map block_text (map (block_shape names.now) blocks.now)) }
 {
     for block in blocks {
         push_block(names, block, to)?;

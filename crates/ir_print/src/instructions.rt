@@ -166,7 +166,8 @@ pub fn push_convert(
 
 /// Appends a `freeze`.
 pub fn push_freeze(names: &Names, ty: &Ty, value: &Val, to: &mut Vec<u8>) -> Result<(), AllocError>
-    ensures { OnOk result (to.new.items ≡ to.old.items ++ body_text (freeze (ty_shape names.now ty.now) (val_shape names.now value.now))) }
+    ensures { OnOk result (to.new.items ≡ to.old.items
+        ++ body_text (freeze (ty_shape names.now ty.now) (val_shape names.now value.now))) }
 {
     push_word(to, Keyword::Freeze)?;
     push_spaced_type(names, ty, to)?;
@@ -190,7 +191,8 @@ fn push_count(to: &mut Vec<u8>, count: i128) -> Result<(), AllocError>
 
 /// Appends an `alloca`.
 pub fn push_alloca(names: &Names, ty: &Ty, count: i128, to: &mut Vec<u8>) -> Result<(), AllocError>
-    ensures { OnOk result (to.new.items ≡ to.old.items ++ body_text (alloca (ty_shape names.now ty.now) count)) }
+    ensures { OnOk result (to.new.items ≡ to.old.items
+        ++ body_text (alloca (ty_shape names.now ty.now) count)) }
 {
     push_word(to, Keyword::Alloca)?;
     push_spaced_type(names, ty, to)?;
@@ -205,7 +207,8 @@ pub fn push_load(
     address: &TyVal,
     to: &mut Vec<u8>,
 ) -> Result<(), AllocError>
-    ensures { OnOk result (to.new.items ≡ to.old.items ++ body_text (load (ty_shape names.now ty.now) (ty_val_shape names.now address.now))) }
+    ensures { OnOk result (to.new.items ≡ to.old.items
+        ++ body_text (load (ty_shape names.now ty.now) (ty_val_shape names.now address.now))) }
 {
     push_word(to, Keyword::Load)?;
     push_spaced_type(names, ty, to)?;
@@ -220,7 +223,9 @@ pub fn push_store(
     address: &TyVal,
     to: &mut Vec<u8>,
 ) -> Result<(), AllocError>
-    ensures { OnOk result (to.new.items ≡ to.old.items ++ body_text (store (ty_val_shape names.now value.now) (ty_val_shape names.now address.now))) }
+    ensures { OnOk result (to.new.items ≡ to.old.items
+        ++ body_text (store (ty_val_shape names.now value.now)
+        (ty_val_shape names.now address.now))) }
 {
     push_word(to, Keyword::Store)?;
     push_spaced_typed(names, value, to)?;
@@ -325,7 +330,8 @@ pub fn push_call(
 
 /// Appends a value that a phi takes, and the block that it comes from.
 fn push_input(names: &Names, input: &PhiIn, to: &mut Vec<u8>) -> Result<(), AllocError>
-    ensures { OnOk result (to.new.items ≡ to.old.items ++ input_text (phi_in_shape names.now input.now)) }
+    ensures { OnOk result (to.new.items ≡ to.old.items
+        ++ input_text (phi_in_shape names.now input.now)) }
 {
     to.push(b'[')?;
     push_value(names, &input.val, to)?;
@@ -337,7 +343,8 @@ fn push_input(names: &Names, input: &PhiIn, to: &mut Vec<u8>) -> Result<(), Allo
 
 /// Appends what a phi takes, with a comma and a blank between.
 fn push_input_row(names: &Names, inputs: &[PhiIn], to: &mut Vec<u8>) -> Result<(), AllocError>
-    ensures { OnOk result (to.new.items ≡ to.old.items ++ in_row false (map input_text (map (phi_in_shape names.now) inputs.now))) }
+    ensures { OnOk result (to.new.items ≡ to.old.items
+        ++ in_row false (map input_text (map (phi_in_shape names.now) inputs.now))) }
 {
     let mut needs_comma = false;
     for input in inputs {
@@ -370,7 +377,8 @@ pub fn push_phi(
     inputs: &[PhiIn],
     to: &mut Vec<u8>,
 ) -> Result<(), AllocError>
-    ensures { OnOk result (to.new.items ≡ to.old.items ++ body_text (phi (ty_shape names.now ty.now) (map (phi_in_shape names.now) inputs.now))) }
+    ensures { OnOk result (to.new.items ≡ to.old.items
+        ++ body_text (phi (ty_shape names.now ty.now) (map (phi_in_shape names.now) inputs.now))) }
 {
     push_word(to, Keyword::Phi)?;
     push_spaced_type(names, ty, to)?;

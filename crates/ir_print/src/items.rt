@@ -31,7 +31,8 @@ fn constancy_word(is_constant: bool) -> Keyword
 
 /// Appends a type with a name, with its line feed.
 fn push_named_type(names: &Names, item: &NamedTy, to: &mut Vec<u8>) -> Result<(), AllocError>
-    ensures { OnOk result (to.new.items ≡ to.old.items ++ type_line (named_ty_shape names.now item.now)) }
+    ensures { OnOk result (to.new.items ≡ to.old.items
+        ++ type_line (named_ty_shape names.now item.now)) }
 {
     push_local_name(names, item.name, to)?;
     to.extend_from_slice(b" = ")?;
@@ -43,7 +44,8 @@ fn push_named_type(names: &Names, item: &NamedTy, to: &mut Vec<u8>) -> Result<()
 
 /// Appends the named types of a module.
 fn push_named_types(names: &Names, items: &[NamedTy], to: &mut Vec<u8>) -> Result<(), AllocError>
-    ensures { OnOk result (to.new.items ≡ to.old.items ++ flat_map type_line (map (named_ty_shape names.now) items.now)) }
+    ensures { OnOk result (to.new.items ≡ to.old.items
+        ++ flat_map type_line (map (named_ty_shape names.now) items.now)) }
 {
     for item in items {
         push_named_type(names, item, to)?;
@@ -53,7 +55,8 @@ fn push_named_types(names: &Names, items: &[NamedTy], to: &mut Vec<u8>) -> Resul
 
 /// Appends a global, with its line feed.
 fn push_global_item(names: &Names, item: &GlobalItem, to: &mut Vec<u8>) -> Result<(), AllocError>
-    ensures { OnOk result (to.new.items ≡ to.old.items ++ global_line (global_shape names.now item.now)) }
+    ensures { OnOk result (to.new.items ≡ to.old.items
+        ++ global_line (global_shape names.now item.now)) }
 {
     push_global_name(names, item.name, to)?;
     to.extend_from_slice(b" = ")?;
@@ -67,7 +70,8 @@ fn push_global_item(names: &Names, item: &GlobalItem, to: &mut Vec<u8>) -> Resul
 
 /// Appends the globals of a module.
 fn push_globals(names: &Names, items: &[GlobalItem], to: &mut Vec<u8>) -> Result<(), AllocError>
-    ensures { OnOk result (to.new.items ≡ to.old.items ++ flat_map global_line (map (global_shape names.now) items.now)) }
+    ensures { OnOk result (to.new.items ≡ to.old.items
+        ++ flat_map global_line (map (global_shape names.now) items.now)) }
 {
     for item in items {
         push_global_item(names, item, to)?;
@@ -78,7 +82,8 @@ fn push_globals(names: &Names, items: &[GlobalItem], to: &mut Vec<u8>) -> Result
 /// Appends types in a row, with a comma and a blank between them.
 #[tactic(auto, using(crate::proofs::Rows::types_row))]
 fn push_types(names: &Names, tys: &[Ty], to: &mut Vec<u8>) -> Result<(), AllocError>
-    ensures { OnOk result (to.new.items ≡ to.old.items ++ in_row false (map type_text (map (ty_shape names.now) tys.now))) }
+    ensures { OnOk result (to.new.items ≡ to.old.items
+        ++ in_row false (map type_text (map (ty_shape names.now) tys.now))) }
 {
     push_tys(names, tys, false, to)
 }
@@ -89,7 +94,8 @@ fn push_parameter_name(
     name: Option<NameId>,
     to: &mut Vec<u8>,
 ) -> Result<(), AllocError>
-    ensures { OnOk result (to.new.items ≡ to.old.items ++ name_part (option_map (name_shape names.now) name)) }
+    ensures { OnOk result (to.new.items ≡ to.old.items
+        ++ name_part (option_map (name_shape names.now) name)) }
 {
     match name {
         None => Ok(()),
@@ -103,7 +109,8 @@ fn push_parameter_name(
 
 /// Appends a parameter.
 fn push_parameter(names: &Names, param: &Param, to: &mut Vec<u8>) -> Result<(), AllocError>
-    ensures { OnOk result (to.new.items ≡ to.old.items ++ parameter_text (param_shape names.now param.now)) }
+    ensures { OnOk result (to.new.items ≡ to.old.items
+        ++ parameter_text (param_shape names.now param.now)) }
 {
     push_type(names, &param.ty, to)?;
     push_parameter_name(names, param.name, to)?;
@@ -112,7 +119,8 @@ fn push_parameter(names: &Names, param: &Param, to: &mut Vec<u8>) -> Result<(), 
 
 /// Appends parameters, with a comma and a blank between them.
 fn push_parameters(names: &Names, params: &[Param], to: &mut Vec<u8>) -> Result<(), AllocError>
-    ensures { OnOk result (to.new.items ≡ to.old.items ++ in_row false (map parameter_text (map (param_shape names.now) params.now))) }
+    ensures { OnOk result (to.new.items ≡ to.old.items
+        ++ in_row false (map parameter_text (map (param_shape names.now) params.now))) }
 {
     let mut needs_comma = false;
     for param in params {
@@ -142,7 +150,8 @@ fn push_signature_start(
 
 /// Appends a declared function, with its line feed.
 fn push_declare(names: &Names, item: &Declare, to: &mut Vec<u8>) -> Result<(), AllocError>
-    ensures { OnOk result (to.new.items ≡ to.old.items ++ declare_line (declare_shape names.now item.now)) }
+    ensures { OnOk result (to.new.items ≡ to.old.items
+        ++ declare_line (declare_shape names.now item.now)) }
 {
     push_word(to, Keyword::Declare)?;
     push_signature_start(names, &item.ret, item.name, to)?;
@@ -153,7 +162,8 @@ fn push_declare(names: &Names, item: &Declare, to: &mut Vec<u8>) -> Result<(), A
 
 /// Appends the declared functions of a module.
 fn push_declares(names: &Names, items: &[Declare], to: &mut Vec<u8>) -> Result<(), AllocError>
-    ensures { OnOk result (to.new.items ≡ to.old.items ++ flat_map declare_line (map (declare_shape names.now) items.now)) }
+    ensures { OnOk result (to.new.items ≡ to.old.items
+        ++ flat_map declare_line (map (declare_shape names.now) items.now)) }
 {
     for item in items {
         push_declare(names, item, to)?;
@@ -163,7 +173,8 @@ fn push_declares(names: &Names, items: &[Declare], to: &mut Vec<u8>) -> Result<(
 
 /// Appends a function.
 fn push_function(names: &Names, item: &Function, to: &mut Vec<u8>) -> Result<(), AllocError>
-    ensures { OnOk result (to.new.items ≡ to.old.items ++ function_text (function_shape names.now item.now)) }
+    ensures { OnOk result (to.new.items ≡ to.old.items
+        ++ function_text (function_shape names.now item.now)) }
 {
     push_word(to, Keyword::Define)?;
     push_signature_start(names, &item.ret, item.name, to)?;
@@ -176,7 +187,8 @@ fn push_function(names: &Names, item: &Function, to: &mut Vec<u8>) -> Result<(),
 
 /// Appends the functions of a module.
 fn push_functions(names: &Names, items: &[Function], to: &mut Vec<u8>) -> Result<(), AllocError>
-    ensures { OnOk result (to.new.items ≡ to.old.items ++ flat_map function_text (map (function_shape names.now) items.now)) }
+    ensures { OnOk result (to.new.items ≡ to.old.items
+        ++ flat_map function_text (map (function_shape names.now) items.now)) }
 {
     for item in items {
         push_function(names, item, to)?;

@@ -50,12 +50,16 @@ pub fn module_lines_are_its_spelling()
 /// modules gives the module again. So it is in any text that spells the module, with other blanks or on other
 /// lines, for whatever tokens that text has.
 pub fn printed_modules_are_read_back()
-    ensures spelled { (m : ModuleShape) → ArePrintable (module_spelling m) → Spells (module_text m) (module_spelling m) }
-    ensures back { (m : ModuleShape) (text : List ℕ) (toks : List Token) → FitsModule m → Spells text (module_spelling m) → AreTokens text toks →
+    ensures spelled { (m : ModuleShape) → ArePrintable (module_spelling m) →
+        Spells (module_text m) (module_spelling m) }
+    ensures back { (m : ModuleShape) (text : List ℕ) (toks : List Token) → FitsModule m →
+        Spells text (module_spelling m) → AreTokens text toks →
         run_module (length (symbols_of text toks)) (symbols_of text toks) ≡ Got m [] }
-    ensures printed { (m : ModuleShape) (toks : List Token) → FitsModule m → ArePrintable (module_spelling m) → AreTokens (module_text m) toks →
+    ensures printed { (m : ModuleShape) (toks : List Token) → FitsModule m →
+        ArePrintable (module_spelling m) → AreTokens (module_text m) toks →
         run_module (length (symbols_of (module_text m) toks)) (symbols_of (module_text m) toks) ≡ Got m [] }
-    ensures spells_it { (m : ModuleShape) (toks : List Token) → FitsModule m → ArePrintable (module_spelling m) → AreTokens (module_text m) toks →
+    ensures spells_it { (m : ModuleShape) (toks : List Token) → FitsModule m →
+        ArePrintable (module_spelling m) → AreTokens (module_text m) toks →
         whole_module (symbols_of (module_text m) toks) m }
 {}
 
@@ -63,13 +67,18 @@ pub fn printed_modules_are_read_back()
 /// spell has a printable spelling, so it is spelled by its printed form, and whatever tokens that text has
 /// spell the module, and the reader gives it again.
 pub fn read_modules_are_read_back()
-    ensures printable { (text : List ℕ) (toks : List Token) (m : ModuleShape) → AreBytes text → whole_module (symbols_of text toks) m →
+    ensures printable { (text : List ℕ) (toks : List Token) (m : ModuleShape) → AreBytes text →
+        whole_module (symbols_of text toks) m →
         ArePrintable (module_spelling m) }
-    ensures spelled { (text : List ℕ) (toks : List Token) (m : ModuleShape) → AreBytes text → whole_module (symbols_of text toks) m →
+    ensures spelled { (text : List ℕ) (toks : List Token) (m : ModuleShape) → AreBytes text →
+        whole_module (symbols_of text toks) m →
         Spells (module_text m) (module_spelling m) }
-    ensures spells_it { (text : List ℕ) (toks : List Token) (m : ModuleShape) (again : List Token) → AreBytes text →
-        whole_module (symbols_of text toks) m → AreTokens (module_text m) again → whole_module (symbols_of (module_text m) again) m }
-    ensures back { (text : List ℕ) (toks : List Token) (m : ModuleShape) (again : List Token) → AreBytes text →
+    ensures spells_it { (text : List ℕ) (toks : List Token) (m : ModuleShape) (again : List Token) →
+        AreBytes text →
+        whole_module (symbols_of text toks) m → AreTokens (module_text m) again →
+        whole_module (symbols_of (module_text m) again) m }
+    ensures back { (text : List ℕ) (toks : List Token) (m : ModuleShape) (again : List Token) →
+        AreBytes text →
         whole_module (symbols_of text toks) m → AreTokens (module_text m) again →
         run_module (length (symbols_of (module_text m) again)) (symbols_of (module_text m) again) ≡ Got m [] }
 {}

@@ -72,7 +72,8 @@ pub fn push_type(names: &Names, ty: &Ty, to: &mut Vec<u8>) -> Result<(), AllocEr
 
 /// Appends a type after a blank.
 pub fn push_spaced_type(names: &Names, ty: &Ty, to: &mut Vec<u8>) -> Result<(), AllocError>
-    ensures { OnOk result (to.new.items ≡ to.old.items ++ 32 ∷ type_text (ty_shape names.now ty.now)) }
+    ensures { OnOk result (to.new.items ≡ to.old.items ++ 32
+        ∷ type_text (ty_shape names.now ty.now)) }
 {
     to.push(b' ')?;
     push_type(names, ty, to)?;
@@ -82,14 +83,16 @@ pub fn push_spaced_type(names: &Names, ty: &Ty, to: &mut Vec<u8>) -> Result<(), 
 /// Appends a constant.
 #[tactic(auto, unfolding(crate::specs::Texts::constant_text))]
 pub fn push_constant(names: &Names, value: &Const, to: &mut Vec<u8>) -> Result<(), AllocError>
-    ensures { OnOk result (to.new.items ≡ to.old.items ++ constant_text (const_shape names.now value.now)) }
+    ensures { OnOk result (to.new.items ≡ to.old.items
+        ++ constant_text (const_shape names.now value.now)) }
 {
     push_const(names, value, to)
 }
 
 /// Appends an operand.
 pub fn push_value(names: &Names, value: &Val, to: &mut Vec<u8>) -> Result<(), AllocError>
-    ensures { OnOk result (to.new.items ≡ to.old.items ++ value_text (val_shape names.now value.now)) }
+    ensures { OnOk result (to.new.items ≡ to.old.items
+        ++ value_text (val_shape names.now value.now)) }
 {
     match value {
         Val::Local(id) => push_local_name(names, *id, to),
@@ -99,7 +102,8 @@ pub fn push_value(names: &Names, value: &Val, to: &mut Vec<u8>) -> Result<(), Al
 
 /// Appends an operand after a blank.
 pub fn push_spaced_value(names: &Names, value: &Val, to: &mut Vec<u8>) -> Result<(), AllocError>
-    ensures { OnOk result (to.new.items ≡ to.old.items ++ 32 ∷ value_text (val_shape names.now value.now)) }
+    ensures { OnOk result (to.new.items ≡ to.old.items ++ 32
+        ∷ value_text (val_shape names.now value.now)) }
 {
     to.push(b' ')?;
     push_value(names, value, to)?;
@@ -108,7 +112,8 @@ pub fn push_spaced_value(names: &Names, value: &Val, to: &mut Vec<u8>) -> Result
 
 /// Appends an operand after its type.
 pub fn push_typed(names: &Names, operand: &TyVal, to: &mut Vec<u8>) -> Result<(), AllocError>
-    ensures { OnOk result (to.new.items ≡ to.old.items ++ typed_text (ty_val_shape names.now operand.now)) }
+    ensures { OnOk result (to.new.items ≡ to.old.items
+        ++ typed_text (ty_val_shape names.now operand.now)) }
 {
     push_type(names, &operand.ty, to)?;
     push_spaced_value(names, &operand.val, to)?;
@@ -117,7 +122,8 @@ pub fn push_typed(names: &Names, operand: &TyVal, to: &mut Vec<u8>) -> Result<()
 
 /// Appends an operand with its type after a blank.
 pub fn push_spaced_typed(names: &Names, operand: &TyVal, to: &mut Vec<u8>) -> Result<(), AllocError>
-    ensures { OnOk result (to.new.items ≡ to.old.items ++ 32 ∷ typed_text (ty_val_shape names.now operand.now)) }
+    ensures { OnOk result (to.new.items ≡ to.old.items ++ 32
+        ∷ typed_text (ty_val_shape names.now operand.now)) }
 {
     to.push(b' ')?;
     push_typed(names, operand, to)?;
@@ -126,7 +132,8 @@ pub fn push_spaced_typed(names: &Names, operand: &TyVal, to: &mut Vec<u8>) -> Re
 
 /// Appends an operand with its type after a comma.
 pub fn push_more_typed(names: &Names, operand: &TyVal, to: &mut Vec<u8>) -> Result<(), AllocError>
-    ensures { OnOk result (to.new.items ≡ to.old.items ++ 44 ∷ 32 ∷ typed_text (ty_val_shape names.now operand.now)) }
+    ensures { OnOk result (to.new.items ≡ to.old.items ++ 44 ∷ 32
+        ∷ typed_text (ty_val_shape names.now operand.now)) }
 {
     to.extend_from_slice(b", ")?;
     push_typed(names, operand, to)?;
@@ -153,7 +160,8 @@ pub fn push_two(
 
 /// Appends a block that a branch leads to, after a blank.
 pub fn push_target(names: &Names, id: NameId, to: &mut Vec<u8>) -> Result<(), AllocError>
-    ensures { OnOk result (to.new.items ≡ to.old.items ++ 32 ∷ target_text (name_shape names.now id)) }
+    ensures { OnOk result (to.new.items ≡ to.old.items ++ 32
+        ∷ target_text (name_shape names.now id)) }
 {
     push_spaced_word(to, Keyword::Label)?;
     to.push(b' ')?;
@@ -163,7 +171,8 @@ pub fn push_target(names: &Names, id: NameId, to: &mut Vec<u8>) -> Result<(), Al
 
 /// Appends a block that a branch leads to, after a comma.
 pub fn push_more_target(names: &Names, id: NameId, to: &mut Vec<u8>) -> Result<(), AllocError>
-    ensures { OnOk result (to.new.items ≡ to.old.items ++ 44 ∷ 32 ∷ target_text (name_shape names.now id)) }
+    ensures { OnOk result (to.new.items ≡ to.old.items ++ 44 ∷ 32
+        ∷ target_text (name_shape names.now id)) }
 {
     to.push(b',')?;
     push_target(names, id, to)?;

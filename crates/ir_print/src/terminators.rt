@@ -16,7 +16,8 @@ use std::alloc::AllocError;
 
 /// Appends a `br` to a block.
 pub fn push_jump(names: &Names, target: NameId, to: &mut Vec<u8>) -> Result<(), AllocError>
-    ensures { OnOk result (to.new.items ≡ to.old.items ++ body_text (jump (name_shape names.now target))) }
+    ensures { OnOk result (to.new.items ≡ to.old.items
+        ++ body_text (jump (name_shape names.now target))) }
 {
     push_word(to, Keyword::Br)?;
     push_target(names, target, to)?;
@@ -61,7 +62,8 @@ fn push_case(names: &Names, case: &Case, to: &mut Vec<u8>) -> Result<(), AllocEr
 
 /// Appends the cases of a `switch`, with a blank between them.
 fn push_cases(names: &Names, cases: &[Case], to: &mut Vec<u8>) -> Result<(), AllocError>
-    ensures { OnOk result (to.new.items ≡ to.old.items ++ in_spaces false (map case_text (map (case_shape names.now) cases.now))) }
+    ensures { OnOk result (to.new.items ≡ to.old.items
+        ++ in_spaces false (map case_text (map (case_shape names.now) cases.now))) }
 {
     let mut needs_blank = false;
     for case in cases {
@@ -103,7 +105,8 @@ pub fn push_ret_void(to: &mut Vec<u8>) -> Result<(), AllocError>
 
 /// Appends a `ret` with its value.
 pub fn push_ret(names: &Names, value: &TyVal, to: &mut Vec<u8>) -> Result<(), AllocError>
-    ensures { OnOk result (to.new.items ≡ to.old.items ++ body_text (return_value (ty_val_shape names.now value.now))) }
+    ensures { OnOk result (to.new.items ≡ to.old.items
+        ++ body_text (return_value (ty_val_shape names.now value.now))) }
 {
     push_word(to, Keyword::Ret)?;
     push_spaced_typed(names, value, to)?;

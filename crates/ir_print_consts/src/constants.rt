@@ -89,7 +89,8 @@ fn push_row(
     is_after: bool,
     to: &mut Vec<u8>,
 ) -> Result<(), AllocError>
-    ensures { OnOk result (to.new.items ≡ to.old.items ++ in_row is_after (map (typed_text names.now) row.now)) }
+    ensures { OnOk result (to.new.items ≡ to.old.items
+        ++ in_row is_after (map (typed_text names.now) row.now)) }
 {
     let mut needs_comma = is_after;
     for typed in row {

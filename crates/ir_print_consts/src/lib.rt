@@ -32,22 +32,27 @@ pub use types::{name_of, push_comma, push_ty, push_tys};
 pub fn printed_types_are_read_back()
     ensures spelled { (t : TyShape) (rest : List Symbol) → ArePrintable (ty_spelling t ++ rest) →
         Spells (joined (ty_spelling t ++ rest)) (ty_spelling t ++ rest) }
-    ensures back { (t : TyShape) (rest : List Symbol) (text : List ℕ) (toks : List Token) → FitsTy t →
+    ensures back { (t : TyShape) (rest : List Symbol) (text : List ℕ) (toks : List Token) →
+        FitsTy t →
         Spells text (ty_spelling t ++ rest) → AreTokens text toks →
         run_ty (length (symbols_of text toks)) (symbols_of text toks) ≡ Got t rest }
-    ensures printed { (t : TyShape) (rest : List Symbol) (toks : List Token) → FitsTy t → ArePrintable (ty_spelling t ++ rest) →
+    ensures printed { (t : TyShape) (rest : List Symbol) (toks : List Token) → FitsTy t →
+        ArePrintable (ty_spelling t ++ rest) →
         AreTokens (joined (ty_spelling t ++ rest)) toks →
         run_ty (length (symbols_of (joined (ty_spelling t ++ rest)) toks)) (symbols_of (joined (ty_spelling t ++ rest)) toks) ≡ Got t rest }
 {}
 
 /// States that a printed constant is read back, as a printed type is.
 pub fn printed_constants_are_read_back()
-    ensures spelled { (c : ConstShape) (rest : List Symbol) → ArePrintable (const_spelling c ++ rest) →
+    ensures spelled { (c : ConstShape) (rest : List Symbol) →
+        ArePrintable (const_spelling c ++ rest) →
         Spells (joined (const_spelling c ++ rest)) (const_spelling c ++ rest) }
-    ensures back { (c : ConstShape) (rest : List Symbol) (text : List ℕ) (toks : List Token) → FitsConst c →
+    ensures back { (c : ConstShape) (rest : List Symbol) (text : List ℕ) (toks : List Token) →
+        FitsConst c →
         Spells text (const_spelling c ++ rest) → AreTokens text toks →
         run_const (length (symbols_of text toks)) (symbols_of text toks) ≡ Got c rest }
-    ensures printed { (c : ConstShape) (rest : List Symbol) (toks : List Token) → FitsConst c → ArePrintable (const_spelling c ++ rest) →
+    ensures printed { (c : ConstShape) (rest : List Symbol) (toks : List Token) → FitsConst c →
+        ArePrintable (const_spelling c ++ rest) →
         AreTokens (joined (const_spelling c ++ rest)) toks →
         run_const (length (symbols_of (joined (const_spelling c ++ rest)) toks)) (symbols_of (joined (const_spelling c ++ rest)) toks) ≡ Got c rest }
 {}
@@ -56,13 +61,17 @@ pub fn printed_constants_are_read_back()
 /// from some token on the spelling is printable, so it is spelled by its printed form, whatever printable
 /// symbols follow, and the reader gives it again.
 pub fn read_types_are_read_back()
-    ensures printable { (text : List ℕ) (toks : List Token) (from : ℕ) (t : TyShape) (after : List Symbol) → AreBytes text →
+    ensures printable { (text : List ℕ) (toks : List Token) (from : ℕ) (t : TyShape)
+        (after : List Symbol) → AreBytes text →
         Reads ty (drop from (symbols_of text toks)) (Got t after) → ArePrintable (ty_spelling t) }
-    ensures spelled { (text : List ℕ) (toks : List Token) (from : ℕ) (t : TyShape) (after rest : List Symbol) → AreBytes text →
+    ensures spelled { (text : List ℕ) (toks : List Token) (from : ℕ) (t : TyShape)
+        (after rest : List Symbol) → AreBytes text →
         Reads ty (drop from (symbols_of text toks)) (Got t after) → ArePrintable rest →
         Spells (joined (ty_spelling t ++ rest)) (ty_spelling t ++ rest) }
-    ensures back { (text : List ℕ) (toks : List Token) (from : ℕ) (t : TyShape) (after rest : List Symbol) (again : List Token) → AreBytes text →
-        Reads ty (drop from (symbols_of text toks)) (Got t after) → ArePrintable rest → AreTokens (joined (ty_spelling t ++ rest)) again →
+    ensures back { (text : List ℕ) (toks : List Token) (from : ℕ) (t : TyShape)
+        (after rest : List Symbol) (again : List Token) → AreBytes text →
+        Reads ty (drop from (symbols_of text toks)) (Got t after) → ArePrintable rest →
+        AreTokens (joined (ty_spelling t ++ rest)) again →
         run_ty (length (symbols_of (joined (ty_spelling t ++ rest)) again)) (symbols_of (joined (ty_spelling t ++ rest)) again) ≡ Got t rest }
 {}
 
@@ -70,12 +79,17 @@ pub fn read_types_are_read_back()
 /// spell from some token on the spelling is printable, so it is spelled by its printed form, whatever
 /// printable symbols follow, and the reader gives it again.
 pub fn read_constants_are_read_back()
-    ensures printable { (text : List ℕ) (toks : List Token) (from : ℕ) (c : ConstShape) (after : List Symbol) → AreBytes text →
-        Reads const (drop from (symbols_of text toks)) (Got c after) → ArePrintable (const_spelling c) }
-    ensures spelled { (text : List ℕ) (toks : List Token) (from : ℕ) (c : ConstShape) (after rest : List Symbol) → AreBytes text →
+    ensures printable { (text : List ℕ) (toks : List Token) (from : ℕ) (c : ConstShape)
+        (after : List Symbol) → AreBytes text →
+        Reads const (drop from (symbols_of text toks)) (Got c after) →
+        ArePrintable (const_spelling c) }
+    ensures spelled { (text : List ℕ) (toks : List Token) (from : ℕ) (c : ConstShape)
+        (after rest : List Symbol) → AreBytes text →
         Reads const (drop from (symbols_of text toks)) (Got c after) → ArePrintable rest →
         Spells (joined (const_spelling c ++ rest)) (const_spelling c ++ rest) }
-    ensures back { (text : List ℕ) (toks : List Token) (from : ℕ) (c : ConstShape) (after rest : List Symbol) (again : List Token) → AreBytes text →
-        Reads const (drop from (symbols_of text toks)) (Got c after) → ArePrintable rest → AreTokens (joined (const_spelling c ++ rest)) again →
+    ensures back { (text : List ℕ) (toks : List Token) (from : ℕ) (c : ConstShape)
+        (after rest : List Symbol) (again : List Token) → AreBytes text →
+        Reads const (drop from (symbols_of text toks)) (Got c after) → ArePrintable rest →
+        AreTokens (joined (const_spelling c ++ rest)) again →
         run_const (length (symbols_of (joined (const_spelling c ++ rest)) again)) (symbols_of (joined (const_spelling c ++ rest)) again) ≡ Got c rest }
 {}

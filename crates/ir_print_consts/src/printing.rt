@@ -18,7 +18,8 @@ use std::alloc::{AllocError, Global};
 ///
 /// Want of memory; then `to` is as before.
 pub fn print_ty(alloc: Global, names: &Names, ty: &Ty, to: &mut Vec<u8>) -> Result<(), AllocError>
-    ensures ok { OnOk result (to.new.items ≡ to.old.items ++ joined (ty_spelling (ty_shape names.now ty.now))) }
+    ensures ok { OnOk result (to.new.items ≡ to.old.items
+        ++ joined (ty_spelling (ty_shape names.now ty.now))) }
     ensures err { OnErr result (to.new.items ≡ to.old.items) }
 {
     let mut text = Vec::new(alloc);
@@ -38,7 +39,8 @@ pub fn print_const(
     value: &Const,
     to: &mut Vec<u8>,
 ) -> Result<(), AllocError>
-    ensures ok { OnOk result (to.new.items ≡ to.old.items ++ joined (const_spelling (const_shape names.now value.now))) }
+    ensures ok { OnOk result (to.new.items ≡ to.old.items
+        ++ joined (const_spelling (const_shape names.now value.now))) }
     ensures err { OnErr result (to.new.items ≡ to.old.items) }
 {
     let mut text = Vec::new(alloc);

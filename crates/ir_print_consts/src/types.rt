@@ -95,7 +95,8 @@ pub fn push_tys(
     is_after: bool,
     to: &mut Vec<u8>,
 ) -> Result<(), AllocError>
-    ensures { OnOk result (to.new.items ≡ to.old.items ++ in_row is_after (map (ty_text names.now) tys.now)) }
+    ensures { OnOk result (to.new.items ≡ to.old.items
+        ++ in_row is_after (map (ty_text names.now) tys.now)) }
 {
     let mut needs_comma = is_after;
     for ty in tys {

@@ -18,7 +18,10 @@ pub use pieces::{
 /// by line: whatever the tokens of such a text are, they mean these symbols.
 pub fn printed_symbols_are_read()
     ensures in_a_row { (ss : List Symbol) → ArePrintable ss → Spells (joined ss) ss }
-    ensures with_blanks { (xs : List Spaced) (tail : List ℕ) → ArePrintable (symbols_in xs) → AreApart xs → AreBlanks tail → Spells (laid_out xs ++ tail) (symbols_in xs) }
-    ensures line_by_line { (ls : List Line) → ArePrintable (rows_of ls) → AreIndented ls → Spells (text_of_lines ls) (rows_of ls) }
-    ensures no_others { (text : List ℕ) (ss : List Symbol) (toks : List Token) → Spells text ss → AreTokens text toks → symbols_of text toks ≡ ss }
+    ensures with_blanks { (xs : List Spaced) (tail : List ℕ) → ArePrintable (symbols_in xs) →
+        AreApart xs → AreBlanks tail → Spells (laid_out xs ++ tail) (symbols_in xs) }
+    ensures line_by_line { (ls : List Line) → ArePrintable (rows_of ls) → AreIndented ls →
+        Spells (text_of_lines ls) (rows_of ls) }
+    ensures no_others { (text : List ℕ) (ss : List Symbol) (toks : List Token) → Spells text ss →
+        AreTokens text toks → symbols_of text toks ≡ ss }
 {}

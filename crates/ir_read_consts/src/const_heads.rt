@@ -70,7 +70,8 @@ pub fn head_at(text: &[u8], toks: &[Token], at: usize) -> Result<(Head, usize), 
 /// Reads the flag of an address at token `at`: whether it is `inbounds`.
 fn flag_at(text: &[u8], toks: &[Token], at: usize) -> Option<bool>
     requires { at ≤ length (symbols_of text.now toks.now) }
-    ensures { MatchOption result (opens (heads address_flag) (drop at (symbols_of text.now toks.now)) ≡ false)
+    ensures { MatchOption result (opens (heads address_flag)
+        (drop at (symbols_of text.now toks.now)) ≡ false)
         (λ b. (opens (heads address_flag) (drop at (symbols_of text.now toks.now)) ≡ true)
         × (run_one address_flag (drop at (symbols_of text.now toks.now))
         ≡ Got b (drop (at + 1) (symbols_of text.now toks.now)))

@@ -156,7 +156,8 @@ fn list_at(
     ensures grows { Grows names.old names.new }
     ensures count { IfOk result (λ x. length names.new + at ≤ length names.old + x.1) }
     ensures known { IfOk result (λ x. list_all (typed_known (length names.new)) x.0.items ≡ true) }
-    ensures reads { Gives (λ v. map (typed_shape names.new) v.items) (symbols_of text.now toks.now) result
+    ensures reads { Gives (λ v. map (typed_shape names.new) v.items)
+        (symbols_of text.now toks.now) result
         (run_typed_list budget close (run_const budget) (drop at (symbols_of text.now toks.now))) }
 {
     let mut items = Vec::new(alloc);
@@ -215,7 +216,8 @@ fn indices_at(
     ensures grows { Grows names.old names.new }
     ensures count { IfOk result (λ x. length names.new + at ≤ length names.old + x.1) }
     ensures known { IfOk result (λ x. list_all (typed_known (length names.new)) x.0.items ≡ true) }
-    ensures reads { Gives (λ v. map (typed_shape names.new) v.items) (symbols_of text.now toks.now) result
+    ensures reads { Gives (λ v. map (typed_shape names.new) v.items)
+        (symbols_of text.now toks.now) result
         (run_until budget (punct 41) (run_skip (punct 44) (run_typed_const budget (run_const budget)))
         (drop at (symbols_of text.now toks.now))) }
 {

@@ -110,7 +110,8 @@ fn fields_at(
     ensures grows { Grows names.old names.new }
     ensures count { IfOk result (λ x. length names.new + at ≤ length names.old + x.1) }
     ensures known { IfOk result (λ x. list_all (ty_known (length names.new)) x.0.items ≡ true) }
-    ensures reads { Gives (λ v. map (ty_shape names.new) v.items) (symbols_of text.now toks.now) result
+    ensures reads { Gives (λ v. map (ty_shape names.new) v.items)
+        (symbols_of text.now toks.now) result
         (run_listed budget (punct 44) (punct 125) (run_ty budget) (drop at (symbols_of text.now toks.now))) }
 {
     let mut fields = Vec::new(alloc);

@@ -142,7 +142,8 @@ pub fn predicate_at(text: &[u8], toks: &[Token], at: usize) -> Result<(Pred, usi
 /// Reads the flag of an operation at token `at`: whether it is `nuw`, and not `nsw`.
 fn wrap_flag_at(text: &[u8], toks: &[Token], at: usize) -> Option<bool>
     requires { at ≤ length (symbols_of text.now toks.now) }
-    ensures { MatchOption result (opens (heads wrap_flag) (drop at (symbols_of text.now toks.now)) ≡ false)
+    ensures { MatchOption result (opens (heads wrap_flag) (drop at (symbols_of text.now toks.now)) ≡
+        false)
         (λ b. (opens (heads wrap_flag) (drop at (symbols_of text.now toks.now)) ≡ true)
         × (run_one wrap_flag (drop at (symbols_of text.now toks.now))
         ≡ Got b (drop (at + 1) (symbols_of text.now toks.now)))

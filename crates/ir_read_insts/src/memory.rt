@@ -150,7 +150,8 @@ fn indices_at(
     ensures grows { Grows names.old names.new }
     ensures count { IfOk result (λ x. length names.new + at ≤ length names.old + x.1) }
     ensures known { IfOk result (λ x. list_all (ty_val_known (length names.new)) x.0.items ≡ true) }
-    ensures reads { Gives (λ v. map (ty_val_shape names.new) v.items) (symbols_of text.now toks.now) result
+    ensures reads { Gives (λ v. map (ty_val_shape names.new) v.items)
+        (symbols_of text.now toks.now) result
         (run_many budget (heads (punct 44)) (run_more_ty_val budget) (drop at (symbols_of text.now toks.now))) }
 {
     let mut indices = Vec::new(alloc);
@@ -207,7 +208,8 @@ fn arguments_at(
     ensures grows { Grows names.old names.new }
     ensures count { IfOk result (λ x. length names.new + at ≤ length names.old + x.1) }
     ensures known { IfOk result (λ x. list_all (ty_val_known (length names.new)) x.0.items ≡ true) }
-    ensures reads { Gives (λ v. map (ty_val_shape names.new) v.items) (symbols_of text.now toks.now) result
+    ensures reads { Gives (λ v. map (ty_val_shape names.new) v.items)
+        (symbols_of text.now toks.now) result
         (run_listed budget (punct 44) (punct 41) (run_ty_val budget) (drop at (symbols_of text.now toks.now))) }
 {
     let mut arguments = Vec::new(alloc);

@@ -57,7 +57,8 @@ fn inputs_at(
     ensures grows { Grows names.old names.new }
     ensures count { IfOk result (λ x. length names.new + at ≤ length names.old + x.1) }
     ensures known { IfOk result (λ x. list_all (phi_in_known (length names.new)) x.0.items ≡ true) }
-    ensures reads { Gives (λ v. map (phi_in_shape names.new) v.items) (symbols_of text.now toks.now) result
+    ensures reads { Gives (λ v. map (phi_in_shape names.new) v.items)
+        (symbols_of text.now toks.now) result
         (run_phi_inputs budget (drop at (symbols_of text.now toks.now))) }
 {
     let mut inputs = Vec::new(alloc);

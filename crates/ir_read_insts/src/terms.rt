@@ -161,7 +161,8 @@ fn cases_at(
     ensures grows { Grows names.old names.new }
     ensures count { IfOk result (λ x. length names.new + at ≤ length names.old + x.1) }
     ensures known { IfOk result (λ x. list_all (case_known (length names.new)) x.0.items ≡ true) }
-    ensures reads { Gives (λ v. map (case_shape names.new) v.items) (symbols_of text.now toks.now) result
+    ensures reads { Gives (λ v. map (case_shape names.new) v.items)
+        (symbols_of text.now toks.now) result
         (run_until budget (punct 93) (run_switch_case budget) (drop at (symbols_of text.now toks.now))) }
 {
     let mut cases = Vec::new(alloc);

@@ -22,7 +22,8 @@ use std::alloc::Global;
 /// Reads the Local at token `at`, if one is there.
 fn local_token_at(text: &[u8], toks: &[Token], at: usize) -> Option<Token>
     requires { at ≤ length (symbols_of text.now toks.now) }
-    ensures { MatchOption result (opens (heads local_name) (drop at (symbols_of text.now toks.now)) ≡ false)
+    ensures { MatchOption result (opens (heads local_name)
+        (drop at (symbols_of text.now toks.now)) ≡ false)
         (λ t. (opens (heads local_name) (drop at (symbols_of text.now toks.now)) ≡ true)
         × (run_one local_name (drop at (symbols_of text.now toks.now))
         ≡ Got (name_of text.now t) (drop (at + 1) (symbols_of text.now toks.now)))

@@ -32,8 +32,10 @@ impl Lines {
 
     /// Appends a line after the others.
     pub(crate) fn push(&mut self, line: Inst, spot: usize) -> Result<(), AllocError>
-        ensures insts { IfOk result (λ _. self.new.insts.items ≡ self.old.insts.items ++ line ∷ []) }
-        ensures spots { IfOk result (λ _. self.new.spots.items ≡ self.old.spots.items ++ spot ∷ []) }
+        ensures insts { IfOk result (λ _. self.new.insts.items ≡ self.old.insts.items ++ line
+            ∷ []) }
+        ensures spots { IfOk result (λ _. self.new.spots.items ≡ self.old.spots.items ++ spot
+            ∷ []) }
     {
         self.insts.push(line)?;
         self.spots.push(spot)?;
@@ -76,7 +78,8 @@ pub fn lines_at(
     ensures known { IfOk result (λ x. lines_known (length names.new) x.0 ≡ true) }
     ensures reads { Gives (lines_shape names.new) (symbols_of text.now toks.now) result
         (run_lines budget (drop at (symbols_of text.now toks.now))) }
-    ensures spots { IfOk result (λ x. InPieces (IsLineAt text.now) (slice_range toks.now at x.1) (lines_shape names.new x.0) x.0.spots.items) }
+    ensures spots { IfOk result (λ x. InPieces (IsLineAt text.now) (slice_range toks.now at x.1)
+        (lines_shape names.new x.0) x.0.spots.items) }
 {
     let mut lines = Lines {
         insts: Vec::new(alloc),
@@ -112,7 +115,8 @@ pub fn block_at(
     ensures known { IfOk result (λ x. labelled_known (length names.new) x.0 ≡ true) }
     ensures reads { Gives (labelled_shape names.new) (symbols_of text.now toks.now) result
         (run_block budget (drop at (symbols_of text.now toks.now))) }
-    ensures spots { IfOk result (λ x. IsBlockAt text.now (slice_range toks.now at x.1) (labelled_shape names.new x.0) x.0.spots.items) }
+    ensures spots { IfOk result (λ x. IsBlockAt text.now (slice_range toks.now at x.1)
+        (labelled_shape names.new x.0) x.0.spots.items) }
 {
     let (name, first) = label_at(alloc, text, toks, at, names)?;
     let (lines, end) = lines_at(alloc, text, toks, first, budget, names)?;
@@ -146,7 +150,8 @@ pub fn entry_at(
     ensures known { IfOk result (λ x. entry_known (length names.new) x.0 ≡ true) }
     ensures reads { Gives (entry_shape names.new) (symbols_of text.now toks.now) result
         (run_first_block budget (drop at (symbols_of text.now toks.now))) }
-    ensures spots { IfOk result (λ x. IsEntryAt text.now (slice_range toks.now at x.1) (entry_shape names.new x.0) x.0.lines.spots.items) }
+    ensures spots { IfOk result (λ x. IsEntryAt text.now (slice_range toks.now at x.1)
+        (entry_shape names.new x.0) x.0.lines.spots.items) }
 {
     let (label, first) = maybe_label_at(alloc, text, toks, at, names)?;
     let (lines, end) = lines_at(alloc, text, toks, first, budget, names)?;

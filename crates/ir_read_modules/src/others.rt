@@ -36,8 +36,10 @@ fn last_at(
     ensures known { IfOk result (λ x. lines_known (length names.new) x.0 ≡ true) }
     ensures reads { Gives (lines_shape names.new) (symbols_of text.now toks.now) result
         (lines_after (lines_shape names.old lines) (run_last_line budget (drop at (symbols_of text.now toks.now)))) }
-    ensures spots { (from : ℕ) → AreLinesAt text.now toks.now from at (lines_shape names.old lines) lines.spots.items
-        → IfOk result (λ x. AreLinesAt text.now toks.now from x.1 (lines_shape names.new x.0) x.0.spots.items) }
+    ensures spots { (from : ℕ) → AreLinesAt text.now toks.now from at
+        (lines_shape names.old lines) lines.spots.items
+        → IfOk result (λ x. AreLinesAt text.now toks.now from x.1
+        (lines_shape names.new x.0) x.0.spots.items) }
 {
     let (body, next) = term_at(alloc, text, toks, at, budget, names)?;
     let last = Inst { result: None, body };
@@ -64,8 +66,10 @@ fn more_at(
     ensures known { IfOk result (λ x. lines_known (length names.new) x.0 ≡ true) }
     ensures reads { Gives (lines_shape names.new) (symbols_of text.now toks.now) result
         (lines_after (lines_shape names.old lines) (run_after_phis budget (drop at (symbols_of text.now toks.now)))) }
-    ensures spots { (from : ℕ) → AreLinesAt text.now toks.now from at (lines_shape names.old lines) lines.spots.items
-        → IfOk result (λ x. AreLinesAt text.now toks.now from x.1 (lines_shape names.new x.0) x.0.spots.items) }
+    ensures spots { (from : ℕ) → AreLinesAt text.now toks.now from at
+        (lines_shape names.old lines) lines.spots.items
+        → IfOk result (λ x. AreLinesAt text.now toks.now from x.1
+        (lines_shape names.new x.0) x.0.spots.items) }
 {
     let mut next = at;
     for _ in 0..budget {
@@ -98,8 +102,10 @@ pub fn others_at(
     ensures known { IfOk result (λ x. lines_known (length names.new) x.0 ≡ true) }
     ensures reads { Gives (lines_shape names.new) (symbols_of text.now toks.now) result
         (lines_after (lines_shape names.old lines) (run_others budget (drop at (symbols_of text.now toks.now)))) }
-    ensures spots { (from : ℕ) → AreLinesAt text.now toks.now from at (lines_shape names.old lines) lines.spots.items
-        → IfOk result (λ x. AreLinesAt text.now toks.now from x.1 (lines_shape names.new x.0) x.0.spots.items) }
+    ensures spots { (from : ℕ) → AreLinesAt text.now toks.now from at
+        (lines_shape names.old lines) lines.spots.items
+        → IfOk result (λ x. AreLinesAt text.now toks.now from x.1
+        (lines_shape names.new x.0) x.0.spots.items) }
 {
     if !begins_inst(text, toks, at) {
         return last_at(alloc, text, toks, at, budget, lines, names);

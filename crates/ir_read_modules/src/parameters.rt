@@ -36,7 +36,8 @@ pub fn parameters_at(
     ensures grows { Grows names.old names.new }
     ensures count { IfOk result (λ x. length names.new + at ≤ length names.old + x.1) }
     ensures known { IfOk result (λ x. list_all (param_known (length names.new)) x.0.items ≡ true) }
-    ensures reads { Gives (λ v. map (param_shape names.new) v.items) (symbols_of text.now toks.now) result
+    ensures reads { Gives (λ v. map (param_shape names.new) v.items)
+        (symbols_of text.now toks.now) result
         (run_parameters budget (drop at (symbols_of text.now toks.now))) }
 {
     let next = mark_at(text, toks, at, b'(')?;
@@ -57,7 +58,8 @@ fn listed_at(
     ensures grows { Grows names.old names.new }
     ensures count { IfOk result (λ x. length names.new + at ≤ length names.old + x.1) }
     ensures known { IfOk result (λ x. list_all (param_known (length names.new)) x.0.items ≡ true) }
-    ensures reads { Gives (λ v. map (param_shape names.new) v.items) (symbols_of text.now toks.now) result
+    ensures reads { Gives (λ v. map (param_shape names.new) v.items)
+        (symbols_of text.now toks.now) result
         (run_listed budget (punct 44) (punct 41) (run_parameter budget) (drop at (symbols_of text.now toks.now))) }
 {
     let mut params = Vec::new(alloc);

@@ -52,7 +52,8 @@ fn maybe_result_at(
     ensures grows { Grows names.old names.new }
     ensures count { IfOk result (λ x. length names.new + at ≤ length names.old + x.1) }
     ensures known { IfOk result (λ x. result_known (length names.new) x.0 ≡ true) }
-    ensures reads { Gives (λ o. option_map (name_shape names.new) o) (symbols_of text.now toks.now) result
+    ensures reads { Gives (λ o. option_map (name_shape names.new) o)
+        (symbols_of text.now toks.now) result
         (run_maybe_result (drop at (symbols_of text.now toks.now))) }
 {
     if begins_local(text, toks, at) {
