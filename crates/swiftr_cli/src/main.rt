@@ -1,38 +1,15 @@
-//! The command `swiftr`: compiles a text into an executable that survives a flipped register bit, runs
-//! executables with one flip or with none, lists their words, and prints the module of a text.
+//! The command `swiftr`: the call of `sr_command` over the files of the system and standard output.
 #![tactic(auto)]
 
-mod compile;
-mod disasm;
 mod edge;
-mod execute;
-mod first_form;
-mod job;
-mod loading;
-mod points;
-mod print;
-#[cfg(test)]
-mod print_forms_tests;
-#[cfg(test)]
-mod print_tests;
-mod program;
-#[cfg(test)]
-mod run_tests;
-mod source;
-mod status;
-#[cfg(test)]
-mod tests;
-mod top;
-mod words;
 
 use edge::{DirStore, StdSink};
-use status::Status;
+use sr_command::{Status, swiftr};
 use std::process::ExitCode;
 use std::rt::Env;
 use std::{env, io};
-pub use top::swiftr;
 
-/// The words of the command line, without the program's name.
+/// Returns the words of the command line, without the program's name.
 fn command_words(rt: &(impl Env + AllocGlobal)) -> io::Result<Vec<String>> {
     let mut words = Vec::new(rt.alloc());
     for word in env::args(rt)?.skip(1) {

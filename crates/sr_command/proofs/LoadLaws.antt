@@ -1,0 +1,56 @@
+-- An executable and an input that are told to be there are those that are read.
+use Rattle.std.proofs.Common.{◌≡◌, ◌<◌, ℕ, List, inl, inr, sym, ◌∙◌, ap, arith, Option, Some, None, Result, Ok, Err, IsSome, length}
+use Rattle.sr_base.specs.Files.{Files, Holds}
+use Rattle.elf_file.specs.Image.{ProgramImage}
+use Rattle.elf_file.specs.Reading.{reading_of}
+use Rattle.elf_file.specs.declared.error.ElfError.{ElfError}
+use Rattle.sr_command.specs.Loads.{HasFile, HasInput, HasLongerInput, LacksInput, IsLoaded, RefusesLoad, LacksLoad, most_program}
+
+-- two contents of one file that is told are the same, and it isn't absent
+one_file : (files : Option Files) (name a b : List ℕ) → IsSome files → Holds files name (Some a) → Holds files name (Some b) → a ≡ b
+one_file None name a b told p q = absurd (cc)
+one_file (Some m) name a b told p q = cc
+
+not_absent : (files : Option Files) (name a : List ℕ) → IsSome files → Holds files name (Some a) → Holds files name None → ⊥
+not_absent None name a told p q = cc
+not_absent (Some m) name a told p q = cc
+
+-- so is the input
+one_input : (files : Option Files) (input : Option (List ℕ)) (a b : List ℕ) → IsSome files → HasInput files input a → HasInput files input b → a ≡ b
+one_input files None a b told p q = p ∙ sym q
+one_input files (Some name) a b told p q = one_file files name a b told p.0 q.0
+
+not_longer : (files : Option Files) (name a b : List ℕ) (most : ℕ) → IsSome files → HasFile files name most a → Holds files name (Some b) → most < length b → ⊥
+not_longer files name a b most told has holds longer = omega (arith, has.1, longer, ap length (one_file files name a b told has.0 holds))
+
+input_not_longer : (files : Option Files) (input : Option (List ℕ)) (a : List ℕ) → IsSome files → HasInput files input a → HasLongerInput files input → ⊥
+input_not_longer files None a told has longer = longer
+input_not_longer files (Some name) a told has longer = not_longer files name a longer.0 _ told has longer.1 longer.2
+
+input_there : (files : Option Files) (input : Option (List ℕ)) (a : List ℕ) → IsSome files → HasInput files input a → LacksInput files input → ⊥
+input_there files None a told has lacks = lacks
+input_there files (Some name) a told has lacks = not_absent files name a told has.0 lacks
+
+ok_is : (x y : ProgramImage) → ◌≡◌ {A = Result ProgramImage ElfError} (Ok x) (Ok y) → x ≡ y
+ok_is x y e = cc
+
+-- what is loaded is determined
+pub one_load : (files : Option Files) (program : List ℕ) (input : Option (List ℕ)) (image image' : ProgramImage) (content content' : List ℕ) → IsSome files → IsLoaded files program input image content → IsLoaded files program input image' content' → (image ≡ image') × (content ≡ content')
+one_load files program input image image' content content' told l l' =
+    let same = one_file files program l.bytes l'.bytes told l.read.0.0 l'.read.0.0 in (
+      ok_is image image' (sym l.is_image ∙ ap reading_of same ∙ l'.is_image),
+      one_input files input content content' told l.read.1 l'.read.1,
+    )
+
+-- what is loaded isn't refused, and is there
+pub load_not_refused : (files : Option Files) (program kind : List ℕ) (input : Option (List ℕ)) (image : ProgramImage) (content : List ℕ) → IsSome files → IsLoaded files program input image content → RefusesLoad files program input kind → ⊥
+load_not_refused files program kind input image content told l (inl ((other, holds, longer), is_kind)) = not_longer files program l.bytes other most_program told l.read.0 holds longer
+load_not_refused files program kind input image content told l (inr (inl (has, longer, is_kind))) = input_not_longer files input content told l.read.1 longer
+load_not_refused files program kind input image content told l (inr (inr (bytes, other, read, (error, fails, is_kind)))) =
+    let same = one_file files program l.bytes bytes told l.read.0.0 read.0.0 in
+    let both : ◌≡◌ {A = Result ProgramImage ElfError} (Ok image) (Err error) = sym l.is_image ∙ ap reading_of same ∙ fails in
+    cc (both)
+
+pub load_there : (files : Option Files) (program : List ℕ) (input : Option (List ℕ)) (image : ProgramImage) (content : List ℕ) → IsSome files → IsLoaded files program input image content → LacksLoad files program input → ⊥
+load_there files program input image content told l (inl lacks) = not_absent files program l.bytes told l.read.0.0 lacks
+load_there files program input image content told l (inr (has, lacks)) = input_there files input content told l.read.1 lacks

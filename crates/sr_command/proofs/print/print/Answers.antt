@@ -1,0 +1,15 @@
+use Rattle.std.proofs.Common.{ℕ, List, subst, IfOk}
+use Rattle.sr_command.specs.Jobs.{IsPrinted}
+use Rattle.sr_command.proofs.PrintLaws.{too_long_print, print_job}
+use Rattle.sr_command.proofs.print.print.Goals as goal
+
+pub returns-in-Ok-None-clause-job : goal.returns-in-Ok-None-clause-job
+returns-in-Ok-None-clause-job g c =
+    too_long_print c.refuse.result (g.S.Store.meaning c.args.store.now) (g.S.Store.meaning c.read_file.new.store) c.args.input.now
+    (rw c.in-Ok-None.field-0-is at c.in-Ok-None.ensures.ok) c.refuse.ensures.ok c.refuse.ensures.err
+
+pub returns-in-Ok-Some-clause-job : goal.returns-in-Ok-Some-clause-job
+returns-in-Ok-Some-clause-job g c =
+    let printed = subst (λ (text : List ℕ). IfOk c.print_text.result (IsPrinted text)) c.deref.ensures.value c.print_text.ensures.ok in
+    print_job c.print_text.result (g.S.Store.meaning c.args.store.now) (g.S.Store.meaning c.read_file.new.store) c.args.input.now c.in-Ok-Some.text.items
+    (rw c.in-Ok-Some.field-0-is at c.in-Ok-Some.ensures.ok) printed c.print_text.ensures.err

@@ -1,0 +1,138 @@
+-- What is left to do once the files are read and all texts are made.
+use Rattle.std.specs.Prelude.{◌≡◌, ◌⊎◌, ℕ, ◌≤◌, List, Option, Some, None, Vec, Result, MatchResult, IsSome}
+use Rattle.std.specs.Option.{option_map}
+use Rattle.std.specs.declared.alloc.Global.{Global}
+use Rattle.sr_base.specs.Counts.{Rose}
+use Rattle.sr_base.specs.Bytes.{TakesPrefix}
+use Rattle.sr_base.specs.Files.{Files, Holds}
+use Rattle.sr_base.specs.Meanings.{StoreMeaning, SinkMeaning}
+use Rattle.sr_command.specs.Words.{Form}
+use Rattle.sr_command.specs.Statuses.{refused_line, line_of}
+use Rattle.sr_command.specs.Answers.{IsWritten}
+use Rattle.sr_command.specs.Loads.{HasFile, HasLonger, HasInput, HasLongerInput, LacksInput, IsLoaded, RefusesLoad, LacksLoad}
+use Rattle.sr_command.specs.Runs.{IsAnswered}
+use Rattle.sr_command.specs.declared.loading.Loaded.{Loaded}
+use Rattle.sr_command.specs.declared.loading.Loaded.TheVariants.{Program, Refused}
+use Rattle.rv_model.specs.Run.{RunResult}
+use Rattle.sr_command.specs.Gives.{Gives, Halts, GivesExecutable, Refuses, RefusesText, Lacks, output_of}
+use Rattle.sr_command.specs.Prints.{GivesPrinted, RefusesShort}
+use Rattle.sr_command.specs.declared.status.Status.{Status}
+use Rattle.sr_command.specs.declared.status.Status.TheVariants.{Done, Stopped, StepsOver, ReadFault, WriteFault, NoMemory, Absent}
+use Rattle.sr_command.specs.declared.job.Output.{Output}
+use Rattle.sr_command.specs.declared.job.Job.{Job}
+use Rattle.sr_command.specs.declared.job.Job.TheVariants.{Whole, Refusal, Halt, Unended}
+
+-- the name and the bytes of what is to be written
+abbrev pub output_name : Option Output → Option (List ℕ)
+output_name output = option_map (λ o. o.name.now) output
+
+abbrev pub output_bytes : Option Output → Option (List ℕ)
+output_bytes output = option_map (λ o. o.bytes.items) output
+
+-- the job is that of the form: what it gives, or why it is refused
+abbrev pub IsJobOf : Form → Option Files → Job → Type 0
+IsJobOf form files (Whole output text line) =
+    (output_name output ≡ output_of form) × Gives form files (record { image = output_bytes output; text = text.items; line = line.items })
+IsJobOf form files (Refusal line) = (kind : List ℕ) × Refuses form files kind × (line.items ≡ refused_line kind)
+IsJobOf form files (Halt text line) = Halts form files Stopped (record { image = None; text = text.items; line = line.items })
+IsJobOf form files (Unended text) = Halts form files StepsOver (record { image = None; text = text.items; line = line_of StepsOver })
+
+-- why a form ends before anything is written or put
+abbrev pub StopsEarly : Form → StoreMeaning → StoreMeaning → Status → Type 0
+StopsEarly form s s' ReadFault = Rose s.read_faults s'.read_faults
+StopsEarly form s s' NoMemory = Unit {0}
+StopsEarly form s s' Absent = Lacks form s.files
+StopsEarly form s s' status = ⊥
+
+-- the store was only read
+pub record IsOnlyRead (s s' : StoreMeaning) : Type 0 where
+  pub files : s'.files ≡ s.files
+  pub write_faults : s'.write_faults ≡ s.write_faults
+  pub write_wants : s'.write_wants ≡ s.write_wants
+  pub later : s.read_faults ≤ s'.read_faults
+
+-- the job was made by reading alone
+pub record IsMade (form : Form) (s s' : StoreMeaning) (made : Result Job Status) : Type 0 where
+  pub read : IsOnlyRead s s'
+  pub job : MatchResult made (IsJobOf form s.files) (StopsEarly form s s')
+
+-- what the reading of a file of at most so many bytes found: the file, or one that is longer
+abbrev pub IsReadWithin : ℕ → Option Files → List ℕ → Option (Vec ℕ Global) → Type 0
+IsReadWithin most files name None = HasLonger files name most
+IsReadWithin most files name (Some content) = HasFile files name most content.items
+
+-- why a file was not read
+abbrev pub StopsReading : StoreMeaning → StoreMeaning → List ℕ → Status → Type 0
+StopsReading s s' name ReadFault = Rose s.read_faults s'.read_faults
+StopsReading s s' name NoMemory = Unit {0}
+StopsReading s s' name Absent = Holds s.files name None
+StopsReading s s' name status = ⊥
+
+-- the status of a write or a put that failed, by the counts of faults and of wants
+abbrev pub FailsBy : ℕ → ℕ → ℕ → ℕ → Status → Type 0
+FailsBy faults faults' wants wants' WriteFault = Rose faults faults'
+FailsBy faults faults' wants wants' NoMemory = Rose wants wants'
+FailsBy faults faults' wants wants' status = ⊥
+
+-- a put of a text failed after the output was written
+abbrev pub FailsInPut : Option Output → List ℕ → StoreMeaning → SinkMeaning → SinkMeaning → Type 0
+FailsInPut output text s' o o' = IsWritten (output_name output) s'.files (output_bytes output) × TakesPrefix o.taken o'.taken text
+
+-- the status of a write of this output and a put of a text, of which one failed
+abbrev pub FailsInHandOut : Option Output → List ℕ → StoreMeaning → StoreMeaning → SinkMeaning → SinkMeaning → Status → Type 0
+FailsInHandOut output text s s' o o' WriteFault =
+    (IsSome (output_name output) × Rose s.write_faults s'.write_faults) ⊎ (FailsInPut output text s' o o' × Rose o.faults o'.faults)
+FailsInHandOut output text s s' o o' NoMemory =
+    ((o' ≡ o) × Rose s.write_wants s'.write_wants) ⊎ (FailsInPut output text s' o o' × Rose o.wants o'.wants)
+FailsInHandOut output text s s' o o' status = ⊥
+
+-- the job of a text that was read
+abbrev pub IsBuilt : List ℕ → List ℕ → Job → Type 0
+IsBuilt text output (Whole whole out line) =
+    (output_name whole ≡ Some output) × GivesExecutable text (record { image = output_bytes whole; text = out.items; line = line.items })
+IsBuilt text output (Refusal line) = (kind : List ℕ) × RefusesText text kind × (line.items ≡ refused_line kind)
+IsBuilt text output other = ⊥
+
+-- the job of a text that was read, and is to be printed
+abbrev pub IsPrinted : List ℕ → Job → Type 0
+IsPrinted text (Whole whole out line) =
+    (output_name whole ≡ None) × GivesPrinted text (record { image = output_bytes whole; text = out.items; line = line.items })
+IsPrinted text (Refusal line) = (kind : List ℕ) × RefusesShort text kind × (line.items ≡ refused_line kind)
+IsPrinted text other = ⊥
+
+-- what the reading of an input found: its bytes, or a file that is too long
+abbrev pub IsInputAs : Option Files → Option (List ℕ) → Option (Vec ℕ Global) → Type 0
+IsInputAs files input None = HasLongerInput files input
+IsInputAs files input (Some content) = HasInput files input content.items
+
+-- why an input was not read
+abbrev pub StopsInput : StoreMeaning → StoreMeaning → Option (List ℕ) → Status → Type 0
+StopsInput s s' input ReadFault = Rose s.read_faults s'.read_faults
+StopsInput s s' input NoMemory = Unit {0}
+StopsInput s s' input Absent = LacksInput s.files input
+StopsInput s s' input status = ⊥
+
+-- what the files of an executable and an input are
+abbrev pub IsLoadedAs : Option Files → List ℕ → Option (List ℕ) → Loaded → Type 0
+IsLoadedAs files program input (Program image content) = IsLoaded files program input image content.items
+IsLoadedAs files program input (Refused kind) = RefusesLoad files program input kind.now
+
+-- why they were not read
+abbrev pub StopsLoading : StoreMeaning → StoreMeaning → List ℕ → Option (List ℕ) → Status → Type 0
+StopsLoading s s' program input ReadFault = Rose s.read_faults s'.read_faults
+StopsLoading s s' program input NoMemory = Unit {0}
+StopsLoading s s' program input Absent = LacksLoad s.files program input
+StopsLoading s s' program input status = ⊥
+
+-- the job of a run
+abbrev pub IsReport : RunResult → Job → Type 0
+IsReport result (Whole output text line) =
+    (output_name output ≡ None) × IsAnswered result Done (record { image = output_bytes output; text = text.items; line = line.items })
+IsReport result (Refusal line) = ⊥
+IsReport result (Halt text line) = IsAnswered result Stopped (record { image = None; text = text.items; line = line.items })
+IsReport result (Unended text) = IsAnswered result StepsOver (record { image = None; text = text.items; line = line_of StepsOver })
+
+-- the job tells a refusal of this kind
+abbrev pub IsRefusal : List ℕ → Job → Type 0
+IsRefusal kind (Refusal line) = line.items ≡ refused_line kind
+IsRefusal kind other = ⊥

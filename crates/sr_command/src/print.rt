@@ -1,0 +1,45 @@
+//! The command `print IN`.
+
+ghost use Rattle.std.specs.Prelude.{◌≡◌, ◌≤◌, length, IfOk, IfErr, MatchResult};
+ghost use Rattle.sr_base.specs.Meanings.{StoreMeaning};
+ghost use Rattle.sr_command.specs.Loads.{most_text};
+ghost use Rattle.sr_command.specs.Words.{print as print_form};
+ghost use Rattle.sr_command.specs.Jobs.{IsJobOf, StopsEarly, IsOnlyRead, IsPrinted};
+
+use crate::job::{Job, refuse};
+use crate::loading::{MOST_TEXT, read_file};
+use crate::source::{Source, source_of};
+use crate::status::Status;
+use sr_base::Store;
+use std::alloc::Global;
+
+/// Returns the job of a text: its module in its printed form, or the refusal.
+fn print_text<'a>(alloc: Global, text: &[u8]) -> Result<Job<'a>, Status>
+    requires { length text.now ≤ most_text }
+    ensures ok { IfOk result (IsPrinted text.now) }
+    ensures err { IfErr result (λ status. status ≡ Status.NoMemory) }
+{
+    match source_of(alloc, text)? {
+        Source::Refused { kind } => refuse(alloc, &kind),
+        Source::Accepted { module } => {
+            let text = ir_print::print(alloc, &module)?;
+            Ok(Job::Whole {
+                output: None,
+                text,
+                line: Vec::new(alloc),
+            })
+        }
+    }
+}
+
+/// Returns what `print IN` has to do, once IN is read.
+pub fn print<'a, S: Store>(alloc: Global, input: &str, store: &mut S) -> Result<Job<'a>, Status>
+    ensures read { IsOnlyRead (S.meaning store.old) (S.meaning store.new) }
+    ensures job { MatchResult result (IsJobOf (print_form input.now) (S.meaning store.old).files) (StopsEarly (print_form input.now) (S.meaning store.old) (S.meaning store.new)) }
+{
+    match read_file(alloc, input, MOST_TEXT, store) {
+        Err(status) => Err(status),
+        Ok(None) => refuse(alloc, b"TooLong most=4194304"),
+        Ok(Some(text)) => print_text(alloc, &text),
+    }
+}

@@ -1,0 +1,132 @@
+//! The public call: words, a store and two sinks to a status.
+
+ghost use Rattle.std.specs.Prelude.{◌≡◌, ◌≤◌, ◌⊎◌, ◌↔◌, None, Some, map, string_bytes, MatchResult};
+ghost use Rattle.sr_base.specs.Counts.{Rose};
+ghost use Rattle.sr_base.specs.Meanings.{StoreMeaning};
+ghost use Rattle.sr_command.specs.Words.{form_of};
+ghost use Rattle.sr_command.specs.Commands.{meant, HasGoodFlip};
+ghost use Rattle.sr_command.specs.Jobs.{IsJobOf, StopsEarly, IsOnlyRead};
+ghost use Rattle.sr_command.specs.Statuses.{status_of};
+ghost use Rattle.sr_command.specs.Answers.{IsCaused, LeavesFiles, PutsOut, Notes, IsComplete, DeliversStill, IsCausedBy, LeavesFilesOf, PutsOutOf, DeliversOf, NotesOf};
+
+use crate::compile::compile;
+use crate::disasm::disasm;
+use crate::execute::execute;
+use crate::job::{Job, finish, tell};
+use crate::print::print;
+use crate::status::Status;
+use crate::words::{Command, parse_words};
+use sr_base::{Sink, Store};
+use std::alloc::Global;
+
+/// Returns what a command has to do, once its files are read.
+fn make_job<'a, S: Store>(
+    alloc: Global,
+    command: Command<'a>,
+    store: &mut S,
+) -> Result<Job<'a>, Status>
+    requires { HasGoodFlip command }
+    ensures read { IsOnlyRead (S.meaning store.old) (S.meaning store.new) }
+    ensures job { MatchResult result (IsJobOf (meant command.entry) (S.meaning store.old).files) (StopsEarly (meant command.entry) (S.meaning store.old) (S.meaning store.new)) }
+{
+    match command {
+        Command::Compile { input, output } => compile(alloc, input, output, store),
+        Command::Execute {
+            program,
+            input,
+            steps,
+            flip,
+        } => execute(alloc, program, input, steps, flip, store),
+        Command::Disasm { program } => disasm(alloc, program, store),
+        Command::Print { input } => print(alloc, input, store),
+    }
+}
+
+/// Runs a command.
+fn run_command<S: Store, O: Sink, N: Sink>(
+    alloc: Global,
+    command: Command<'_>,
+    store: &mut S,
+    out: &mut O,
+    note: &mut N,
+) -> Status
+    requires { HasGoodFlip command }
+    ensures cause { IsCausedBy (meant command.entry) result (S.meaning store.old) (S.meaning store.new) (O.meaning out.old) (O.meaning out.new) (N.meaning note.old) (N.meaning note.new) }
+    ensures files { LeavesFilesOf (meant command.entry) result (S.meaning store.old) (S.meaning store.new) (O.meaning out.old) (O.meaning out.new) }
+    ensures out { PutsOutOf (meant command.entry) result (S.meaning store.old) (O.meaning out.old) (O.meaning out.new) }
+    ensures delivers { DeliversOf (meant command.entry) result (S.meaning store.old) (S.meaning store.new) (O.meaning out.old) (O.meaning out.new) }
+    ensures note { NotesOf (meant command.entry) result (S.meaning store.old) (N.meaning note.old) (N.meaning note.new) }
+    ensures complete { IsComplete (Some (meant command.entry)) result (S.meaning store.old) (S.meaning store.new) (O.meaning out.old) (O.meaning out.new) (N.meaning note.old) (N.meaning note.new) }
+{
+    let made = make_job(alloc, command, store);
+    finish(made, store, out, note)
+}
+
+/// Runs the command that the words are, and answers its status.
+fn run<S: Store, O: Sink, N: Sink>(
+    alloc: Global,
+    words: &[String],
+    store: &mut S,
+    out: &mut O,
+    note: &mut N,
+) -> Status
+    ensures cause { IsCaused (form_of (map string_bytes words.now)) result (S.meaning store.old) (S.meaning store.new) (O.meaning out.old) (O.meaning out.new) (N.meaning note.old) (N.meaning note.new) }
+    ensures files { LeavesFiles (form_of (map string_bytes words.now)) result (S.meaning store.old) (S.meaning store.new) (O.meaning out.old) (O.meaning out.new) }
+    ensures out { PutsOut (form_of (map string_bytes words.now)) result (S.meaning store.old) (O.meaning out.old) (O.meaning out.new) }
+    ensures delivers { DeliversStill (form_of (map string_bytes words.now)) result (S.meaning store.old) (S.meaning store.new) (O.meaning out.old) (O.meaning out.new) }
+    ensures note { Notes (form_of (map string_bytes words.now)) result (S.meaning store.old) (N.meaning note.old) (N.meaning note.new) }
+    ensures complete { IsComplete (form_of (map string_bytes words.now)) result (S.meaning store.old) (S.meaning store.new) (O.meaning out.old) (O.meaning out.new) (N.meaning note.old) (N.meaning note.new) }
+{
+    match parse_words(words) {
+        None => {
+            tell(note, Status::Usage.line());
+            Status::Usage
+        }
+        Some(command) => run_command(alloc, command, store, out, note),
+    }
+}
+
+/// Runs the command that the words are, without the program's name, and answers its status.
+///
+/// The files are those of `store`, what the command gives is put on `out`, and a line on how it ended on
+/// `note`. No memory is taken once the first byte is written or put, but by the store and the sinks.
+///
+/// | status | comes | line |
+/// |---|---|---|
+/// | 0 | all was done | none, or how the program ended |
+/// | 1 | the words have none of the forms | `usage` |
+/// | 2 | a file is refused | `refused` and a kind |
+/// | 3 | the program in a file traps | `trap`, the address and the cause |
+/// | 4 | the program hasn't ended within its steps | `steps over` |
+/// | 5 | only where the store counted a read fault | `read fault` |
+/// | 6 | only where the store, `out` or `note` counted a fault | `write fault` |
+/// | 7 | where memory runs out | `no memory` |
+/// | 8 | a file that is to be read isn't there | `absent` |
+pub fn swiftr<S: Store, O: Sink, N: Sink>(
+    alloc: Global,
+    words: &[String],
+    store: &mut S,
+    out: &mut O,
+    note: &mut N,
+) -> u8
+    ensures known { result ≤ 8 }
+
+    // Why each status comes. The causes shut one another out, so each comes exactly where its cause holds.
+    ensures cause { IsCaused (form_of (map string_bytes words.now)) (status_of result) (S.meaning store.old) (S.meaning store.new) (O.meaning out.old) (O.meaning out.new) (N.meaning note.old) (N.meaning note.new) }
+
+    // What becomes of the files, of `out` and of `note`.
+    ensures files { LeavesFiles (form_of (map string_bytes words.now)) (status_of result) (S.meaning store.old) (S.meaning store.new) (O.meaning out.old) (O.meaning out.new) }
+    ensures out { PutsOut (form_of (map string_bytes words.now)) (status_of result) (S.meaning store.old) (O.meaning out.old) (O.meaning out.new) }
+    ensures delivers { DeliversStill (form_of (map string_bytes words.now)) (status_of result) (S.meaning store.old) (S.meaning store.new) (O.meaning out.old) (O.meaning out.new) }
+    ensures note { Notes (form_of (map string_bytes words.now)) (status_of result) (S.meaning store.old) (N.meaning note.old) (N.meaning note.new) }
+
+    // Words of a form, files that are there and accepted, and no fault: all is done, or memory is wanting.
+    ensures complete { IsComplete (form_of (map string_bytes words.now)) (status_of result) (S.meaning store.old) (S.meaning store.new) (O.meaning out.old) (O.meaning out.new) (N.meaning note.old) (N.meaning note.new) }
+
+    // The same by numbers, for the statuses that need no more to be said.
+    ensures usage { (result ≡ 1) ↔ (form_of (map string_bytes words.now) ≡ None) }
+    ensures read_fault { result ≡ 5 → Rose (S.meaning store.old).read_faults (S.meaning store.new).read_faults }
+    ensures write_fault { result ≡ 6 → Rose (S.meaning store.old).write_faults (S.meaning store.new).write_faults ⊎ Rose (O.meaning out.old).faults (O.meaning out.new).faults ⊎ Rose (N.meaning note.old).faults (N.meaning note.new).faults }
+{
+    run(alloc, words, store, out, note).code()
+}
