@@ -1,5 +1,5 @@
 -- What can be done is done, where no fault comes and memory suffices: each other status has a cause against it.
-use Rattle.std.proofs.Common.{◌≡◌, ℕ, List, [], inl, inr, refl, arith, subst, sym, ◌∙◌, ap, Option, Some, None, IsSome}
+use Rattle.std.proofs.Common.{◌≡◌, ℕ, ℤ, List, [], inl, inr, refl, arith, subst, sym, ◌∙◌, ap, Option, Some, None, IsSome}
 use Rattle.sr_base.specs.Files.{Files, held, Holds}
 use Rattle.sr_base.specs.Meanings.{StoreMeaning, SinkMeaning}
 use Rattle.sr_command.specs.Words.{Form, compile, execute, disasm, print}
@@ -15,6 +15,8 @@ use Rattle.sr_command.specs.Yield.{Yield}
 use Rattle.sr_command.proofs.LoadLaws.{one_load, load_not_refused, load_there}
 use Rattle.sr_command.proofs.PrintLaws.{printed_not_refused}
 use Rattle.sr_command.specs.Answers.{IsCausedBy, IsComplete}
+use Rattle.sr_command.specs.declared.refusal.Refusal.{Refusal}
+use Rattle.sr_command.specs.declared.refusal.Refusal.TheVariants.{TooLong, NotBuilt}
 use Rattle.sr_command.specs.declared.status.Status.{Status}
 use Rattle.sr_command.specs.declared.status.Status.TheVariants.{Done, Usage, Refused, Stopped, StepsOver, ReadFault, WriteFault, NoMemory, Absent}
 
@@ -29,9 +31,10 @@ not_absent None name text there holds = cc
 not_absent (Some told) name text there holds = cc
 
 -- a text that is accepted isn't refused
-not_refused : (text kind : List ℕ) (number : _) → IsAccepted text number → RefusesText text kind → ⊥
-not_refused text kind number accepted (inl long) = omega (arith, accepted.0, long.0)
-not_refused text kind number accepted (inr none) = none.1 number accepted.1
+not_refused : (text : List ℕ) (why : Refusal) (number : ℤ) → IsAccepted text number → RefusesText text why → ⊥
+not_refused text (TooLong most) number accepted h = omega (arith, accepted.0, h.1)
+not_refused text NotBuilt number accepted h = h.1 number accepted.1
+not_refused text other number accepted h = absurd h
 
 -- a program that is told is run to one status
 one_status : (files : Option Files) (program : List ℕ) (input : Option (List ℕ)) (steps : ℕ) (flip : Option Flip) (a b : Status) (given other : Yield) → IsSome files → Runs files program input steps flip a given → Runs files program input steps flip b other → a ≡ b
@@ -43,15 +46,15 @@ one_status files program input steps flip a b given other told (image, content, 
     ∙ sym answered'.0
 
 -- a program that is run isn't refused, and is there
-run_not_refused : (files : Option Files) (program kind : List ℕ) (input : Option (List ℕ)) (steps : ℕ) (flip : Option Flip) (status : Status) (given : Yield) → IsSome files → Runs files program input steps flip status given → RefusesLoad files program input kind → ⊥
-run_not_refused files program kind input steps flip status given told (image, content, loaded, answered) = load_not_refused files program kind input image content told loaded
+run_not_refused : (files : Option Files) (program : List ℕ) (why : Refusal) (input : Option (List ℕ)) (steps : ℕ) (flip : Option Flip) (status : Status) (given : Yield) → IsSome files → Runs files program input steps flip status given → RefusesLoad files program input why → ⊥
+run_not_refused files program why input steps flip status given told (image, content, loaded, answered) = load_not_refused files program why input image content told loaded
 
 run_there : (files : Option Files) (program : List ℕ) (input : Option (List ℕ)) (steps : ℕ) (flip : Option Flip) (status : Status) (given : Yield) → IsSome files → Runs files program input steps flip status given → LacksLoad files program input → ⊥
 run_there files program input steps flip status given told (image, content, loaded, answered) = load_there files program input image content told loaded
 
 -- nor is one whose words are listed
-listed_not_refused : (files : Option Files) (program kind : List ℕ) (given : Yield) → IsSome files → Disassembles files program given → RefusesLoad files program None kind → ⊥
-listed_not_refused files program kind given told (image, loaded, is_given) = load_not_refused files program kind None image [] told loaded
+listed_not_refused : (files : Option Files) (program : List ℕ) (why : Refusal) (given : Yield) → IsSome files → Disassembles files program given → RefusesLoad files program None why → ⊥
+listed_not_refused files program why given told (image, loaded, is_given) = load_not_refused files program why None image [] told loaded
 
 listed_there : (files : Option Files) (program : List ℕ) (given : Yield) → IsSome files → Disassembles files program given → LacksLoad files program None → ⊥
 listed_there files program given told (image, loaded, is_given) = load_there files program None image [] told loaded
@@ -65,8 +68,8 @@ not_over e = cc
 pub completes : (form : Form) (status : Status) (s s' : StoreMeaning) (o o' n n' : SinkMeaning) → IsCausedBy form status s s' o o' n n' → IsComplete (Some form) status s s' o o' n n'
 completes (compile input output) Done s s' o o' n n' cause = λ can faultless. inl refl
 completes (compile input output) Usage s s' o o' n n' cause = absurd cause
-completes (compile input output) Refused s s' o o' n n' (kind, (text, holds, refuses)) = λ (there, number, held_there, accepted) faultless.
-    absurd (not_refused text kind number (subst (λ (t : List ℕ). IsAccepted t number) (same_file s.files input there text held_there holds) accepted) refuses)
+completes (compile input output) Refused s s' o o' n n' (why, (text, holds, refuses)) = λ (there, number, held_there, accepted) faultless.
+    absurd (not_refused text why number (subst (λ (t : List ℕ). IsAccepted t number) (same_file s.files input there text held_there holds) accepted) refuses)
 completes (compile input output) Stopped s s' o o' n n' cause = absurd cause.1
 completes (compile input output) StepsOver s s' o o' n n' cause = absurd cause.1
 completes (compile input output) ReadFault s s' o o' n n' cause = λ can faultless. absurd (faultless.0 cause)
@@ -75,8 +78,8 @@ completes (compile input output) NoMemory s s' o o' n n' cause = λ can faultles
 completes (compile input output) Absent s s' o o' n n' cause = λ (there, number, held_there, accepted) faultless. absurd (not_absent s.files input there held_there cause)
 completes (execute program input steps flip) Done s s' o o' n n' cause = λ can faultless. inl refl
 completes (execute program input steps flip) Usage s s' o o' n n' cause = absurd cause
-completes (execute program input steps flip) Refused s s' o o' n n' (kind, refuses) = λ (told, (given, gives)) faultless.
-    absurd (run_not_refused s.files program kind input steps flip Done given told gives refuses)
+completes (execute program input steps flip) Refused s s' o o' n n' (why, refuses) = λ (told, (given, gives)) faultless.
+    absurd (run_not_refused s.files program why input steps flip Done given told gives refuses)
 completes (execute program input steps flip) Stopped s s' o o' n n' (other, halts) = λ (told, (given, gives)) faultless.
     absurd (not_stopped (one_status s.files program input steps flip Done Stopped given other told gives halts))
 completes (execute program input steps flip) StepsOver s s' o o' n n' (other, halts) = λ (told, (given, gives)) faultless.
@@ -88,7 +91,7 @@ completes (execute program input steps flip) Absent s s' o o' n n' cause = λ (t
     absurd (run_there s.files program input steps flip Done given told gives cause)
 completes (disasm program) Done s s' o o' n n' cause = λ can faultless. inl refl
 completes (disasm program) Usage s s' o o' n n' cause = absurd cause
-completes (disasm program) Refused s s' o o' n n' (kind, refuses) = λ (told, (given, gives)) faultless. absurd (listed_not_refused s.files program kind given told gives refuses)
+completes (disasm program) Refused s s' o o' n n' (why, refuses) = λ (told, (given, gives)) faultless. absurd (listed_not_refused s.files program why given told gives refuses)
 completes (disasm program) Stopped s s' o o' n n' cause = absurd cause.1
 completes (disasm program) StepsOver s s' o o' n n' cause = absurd cause.1
 completes (disasm program) ReadFault s s' o o' n n' cause = λ can faultless. absurd (faultless.0 cause)
@@ -97,8 +100,8 @@ completes (disasm program) NoMemory s s' o o' n n' cause = λ can faultless. inr
 completes (disasm program) Absent s s' o o' n n' cause = λ (told, (given, gives)) faultless. absurd (listed_there s.files program given told gives cause)
 completes (print input) Done s s' o o' n n' cause = λ can faultless. inl refl
 completes (print input) Usage s s' o o' n n' cause = absurd cause
-completes (print input) Refused s s' o o' n n' (kind, (text, holds, refuses)) = λ (there, m, held_there, printable) faultless.
-    absurd (printed_not_refused text kind m (subst (λ (t : List ℕ). HasModule t m) (same_file s.files input there text held_there holds) printable) refuses)
+completes (print input) Refused s s' o o' n n' (why, (text, holds, refuses)) = λ (there, m, held_there, printable) faultless.
+    absurd (printed_not_refused text why m (subst (λ (t : List ℕ). HasModule t m) (same_file s.files input there text held_there holds) printable) refuses)
 completes (print input) Stopped s s' o o' n n' cause = absurd cause.1
 completes (print input) StepsOver s s' o o' n n' cause = absurd cause.1
 completes (print input) ReadFault s s' o o' n n' cause = λ can faultless. absurd (faultless.0 cause)

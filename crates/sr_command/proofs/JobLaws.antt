@@ -12,17 +12,6 @@ use Rattle.sr_command.proofs.ExitSurvives.{exit_is_hardened}
 use Rattle.std.proofs.lemmas.Int.{to_z-of_z}
 use Rattle.sr_command.specs.Loads.{most_text}
 use Rattle.sr_command.specs.Gives.{GivesExecutable}
-use Rattle.sr_command.specs.Jobs.{IsRefusal, IsBuilt, IsJobOf, IsReadWithin, StopsEarly}
-use Rattle.sr_command.specs.declared.status.Status.{Status}
-use Rattle.sr_command.specs.declared.status.Status.TheVariants.{NoMemory}
-use Rattle.sr_command.specs.declared.job.Job.{Job}
-use Rattle.sr_command.specs.declared.job.Job.TheVariants.{Refusal}
-
--- a text that returns no number is refused as not built
-pub not_built : (r : Result Job Status) (text output : List ℕ) → length text ≤ most_text → ((number : ℤ) → Returns text number → ⊥) → IfOk r (IsRefusal (codes "NotBuilt")) → IfOk r (IsBuilt text output)
-not_built (Ok (Refusal line)) text output short none h = (codes "NotBuilt", inr (short, none, refl), h)
-not_built (Ok other) text output short none h = absurd h
-not_built (Err e) text output short none h = tt
 
 status_small : (z : ℤ) → exit_status z < 256
 status_small (pos n) = omega arith
@@ -43,9 +32,3 @@ gives_executable text number bytes points line short returns is_executable are_p
 -- a number that a text returns passes unchanged as 32 bits
 pub returned_kept : (text : List ℕ) (number : ℤ) → Returns text number → to_z w32 (of_z w32 number) ≡ number
 returned_kept text number returns = to_z-of_z w32 number (nine_digits_fit number returns.1.0)
-
--- a file that is too long is refused as that
-pub too_long : (r : Result Job Status) (s s' : StoreMeaning) (input output : List ℕ) → IsReadWithin most_text s.files input None → IfOk r (IsRefusal (codes "TooLong most=4194304")) → IfErr r (λ status. status ≡ NoMemory) → MatchResult r (IsJobOf (compile input output) s.files) (StopsEarly (compile input output) s s')
-too_long (Ok (Refusal line)) s s' input output read h e = (codes "TooLong most=4194304", (read.0, read.1, inl (read.2, refl)), h)
-too_long (Ok other) s s' input output read h e = absurd h
-too_long (Err status) s s' input output read h e = rw e tt

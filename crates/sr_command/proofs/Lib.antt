@@ -3,8 +3,6 @@ mod JobLaws
 mod LoadLaws
 mod Hexadecimals
 mod Numbers
-mod FewTokens
-mod SourceLaws
 mod PrintLaws
 mod Complete
 mod Delivered

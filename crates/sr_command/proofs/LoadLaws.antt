@@ -4,7 +4,10 @@ use Rattle.sr_base.specs.Files.{Files, Holds}
 use Rattle.elf_file.specs.Image.{ProgramImage}
 use Rattle.elf_file.specs.Reading.{reading_of}
 use Rattle.elf_file.specs.declared.error.ElfError.{ElfError}
-use Rattle.sr_command.specs.Loads.{HasFile, HasInput, HasLongerInput, LacksInput, IsLoaded, RefusesLoad, LacksLoad, most_program}
+use Rattle.elf_file.specs.declared.error.ElfError.TheVariants as elf
+use Rattle.sr_command.specs.declared.refusal.Refusal.{Refusal}
+use Rattle.sr_command.specs.declared.refusal.Refusal.TheVariants.{TooLong, NotElf, WrongKind, BadSegment, Overlap, TooLarge}
+use Rattle.sr_command.specs.Loads.{HasFile, HasInput, HasLongerInput, LacksInput, IsLoaded, IsNoExecutable, RefusesLoad, LacksLoad, most_program}
 
 -- two contents of one file that is told are the same, and it isn't absent
 one_file : (files : Option Files) (name a b : List ℕ) → IsSome files → Holds files name (Some a) → Holds files name (Some b) → a ≡ b
@@ -42,14 +45,23 @@ one_load files program input image image' content content' told l l' =
       one_input files input content content' told l.read.1 l'.read.1,
     )
 
--- what is loaded isn't refused, and is there
-pub load_not_refused : (files : Option Files) (program kind : List ℕ) (input : Option (List ℕ)) (image : ProgramImage) (content : List ℕ) → IsSome files → IsLoaded files program input image content → RefusesLoad files program input kind → ⊥
-load_not_refused files program kind input image content told l (inl ((other, holds, longer), is_kind)) = not_longer files program l.bytes other most_program told l.read.0 holds longer
-load_not_refused files program kind input image content told l (inr (inl (has, longer, is_kind))) = input_not_longer files input content told l.read.1 longer
-load_not_refused files program kind input image content told l (inr (inr (bytes, other, read, (error, fails, is_kind)))) =
+-- what is loaded is an executable
+load_not_broken : (files : Option Files) (program : List ℕ) (input : Option (List ℕ)) (image : ProgramImage) (content : List ℕ) (error : ElfError) → IsSome files → IsLoaded files program input image content → IsNoExecutable files program input error → ⊥
+load_not_broken files program input image content error told l (bytes, other, read, fails) =
     let same = one_file files program l.bytes bytes told l.read.0.0 read.0.0 in
     let both : ◌≡◌ {A = Result ProgramImage ElfError} (Ok image) (Err error) = sym l.is_image ∙ ap reading_of same ∙ fails in
     cc (both)
+
+-- it isn't refused, and is there
+pub load_not_refused : (files : Option Files) (program : List ℕ) (why : Refusal) (input : Option (List ℕ)) (image : ProgramImage) (content : List ℕ) → IsSome files → IsLoaded files program input image content → RefusesLoad files program input why → ⊥
+load_not_refused files program (TooLong most) input image content told l (inl (is_most, (other, holds, longer))) = not_longer files program l.bytes other most_program told l.read.0 holds longer
+load_not_refused files program (TooLong most) input image content told l (inr (is_most, has, longer)) = input_not_longer files input content told l.read.1 longer
+load_not_refused files program NotElf input image content told l h = load_not_broken files program input image content elf.NotElf told l h
+load_not_refused files program WrongKind input image content told l h = load_not_broken files program input image content elf.WrongKind told l h
+load_not_refused files program BadSegment input image content told l h = load_not_broken files program input image content elf.BadSegment told l h
+load_not_refused files program Overlap input image content told l h = load_not_broken files program input image content elf.Overlap told l h
+load_not_refused files program TooLarge input image content told l h = load_not_broken files program input image content elf.TooLarge told l h
+load_not_refused files program other input image content told l h = absurd h
 
 pub load_there : (files : Option Files) (program : List ℕ) (input : Option (List ℕ)) (image : ProgramImage) (content : List ℕ) → IsSome files → IsLoaded files program input image content → LacksLoad files program input → ⊥
 load_there files program input image content told l (inl lacks) = not_absent files program l.bytes told l.read.0.0 lacks

@@ -5,8 +5,10 @@ use Rattle.sr_base.specs.Bytes.{Takes, TakesPrefix}
 use Rattle.sr_base.specs.Files.{Files, Holds, SameBut}
 use Rattle.sr_base.specs.Meanings.{StoreMeaning, SinkMeaning}
 use Rattle.sr_command.specs.Words.{Form, compile, execute, disasm, print}
-use Rattle.sr_command.specs.Statuses.{line_of, refused_line}
+use Rattle.sr_command.specs.Statuses.{line_of}
+use Rattle.sr_command.specs.Refusals.{refused_line}
 use Rattle.sr_command.specs.Gives.{Yield, Gives, Halts, Refuses, Lacks, output_of, CanBeDone}
+use Rattle.sr_command.specs.declared.refusal.Refusal.{Refusal}
 use Rattle.sr_command.specs.declared.status.Status.{Status}
 use Rattle.sr_command.specs.declared.status.Status.TheVariants.{Done, Usage, Refused, Stopped, StepsOver, ReadFault, WriteFault, NoMemory, Absent}
 
@@ -36,7 +38,7 @@ HasWriteFault (print input) s s' o o' n n' = Rose o.faults o'.faults
 abbrev pub IsCausedBy : Form → Status → StoreMeaning → StoreMeaning → SinkMeaning → SinkMeaning → SinkMeaning → SinkMeaning → Type 0
 IsCausedBy form Done s s' o o' n n' = (given : Yield) × Gives form s.files given × IsWritten (output_of form) s'.files given.image × Takes o.taken o'.taken given.text
 IsCausedBy form Usage s s' o o' n n' = ⊥
-IsCausedBy form Refused s s' o o' n n' = (kind : List ℕ) × Refuses form s.files kind
+IsCausedBy form Refused s s' o o' n n' = (why : Refusal) × Refuses form s.files why
 IsCausedBy form Stopped s s' o o' n n' = (given : Yield) × Halts form s.files Stopped given
 IsCausedBy form StepsOver s s' o o' n n' = (given : Yield) × Halts form s.files StepsOver given
 IsCausedBy form ReadFault s s' o o' n n' = Rose s.read_faults s'.read_faults
@@ -97,7 +99,7 @@ BreaksOff form s n n' count count' = (given : Yield) × Gives form s.files given
 -- what `note` has taken: where all was done the form's own line, which may be none, and else the status's line
 abbrev pub NotesOf : Form → Status → StoreMeaning → SinkMeaning → SinkMeaning → Type 0
 NotesOf form Done s n n' = (given : Yield) × Gives form s.files given × Takes n.taken n'.taken given.line × (given.line ≡ [] → n' ≡ n)
-NotesOf form Refused s n n' = (kind : List ℕ) × Refuses form s.files kind × Tells n n' (refused_line kind)
+NotesOf form Refused s n n' = (why : Refusal) × Refuses form s.files why × Tells n n' (refused_line why)
 NotesOf form Stopped s n n' = (given : Yield) × Halts form s.files Stopped given × Tells n n' given.line
 NotesOf form WriteFault s n n' = Tells n n' (line_of WriteFault) ⊎ BreaksOff form s n n' n.faults n'.faults
 NotesOf form NoMemory s n n' = Tells n n' (line_of NoMemory) ⊎ BreaksOff form s n n' n.wants n'.wants

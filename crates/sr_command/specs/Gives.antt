@@ -11,6 +11,8 @@ use Rattle.sr_command.specs.Runs.{Runs}
 use Rattle.sr_command.specs.Disasm.{Disassembles}
 use Rattle.sr_command.specs.Prints.{GivesPrinted, RefusesPrint, HasModule}
 use Rattle.ir_tree.specs.Shape.{ModuleShape}
+use Rattle.sr_command.specs.declared.refusal.Refusal.{Refusal}
+use Rattle.sr_command.specs.declared.refusal.Refusal.TheVariants.{TooLong, NotBuilt}
 use Rattle.sr_command.specs.declared.status.Status.{Status}
 use Rattle.sr_command.specs.declared.status.Status.TheVariants.{Done}
 pub use Rattle.sr_command.specs.Yield.{Yield}
@@ -39,18 +41,18 @@ Halts (execute program input steps flip) files status given = Runs files program
 Halts (disasm program) files status given = ⊥
 Halts (print input) files status given = ⊥
 
--- the kinds of refusal of a text, each exactly where it comes
-abbrev pub RefusesText : List ℕ → List ℕ → Type 0
-RefusesText text kind =
-    ((most_text < length text) × (kind ≡ codes "TooLong most=4194304"))
-    ⊎ ((length text ≤ most_text) × ((number : ℤ) → Returns text number → ⊥) × (kind ≡ codes "NotBuilt"))
+-- why a text is refused that is to be compiled: it is too long, or it is not, and returns no number
+abbrev pub RefusesText : List ℕ → Refusal → Type 0
+RefusesText text (TooLong most) = (most ≡ most_text) × (most_text < length text)
+RefusesText text NotBuilt = (length text ≤ most_text) × ((number : ℤ) → Returns text number → ⊥)
+RefusesText text other = ⊥
 
--- a file that the form reads is refused, by a kind
-abbrev pub Refuses : Form → Option Files → List ℕ → Type 0
-Refuses (compile input output) files kind = (text : List ℕ) × Holds files input (Some text) × RefusesText text kind
-Refuses (execute program input steps flip) files kind = RefusesLoad files program input kind
-Refuses (disasm program) files kind = RefusesLoad files program None kind
-Refuses (print input) files kind = (text : List ℕ) × Holds files input (Some text) × RefusesPrint text kind
+-- a file that the form reads is refused, for this reason
+abbrev pub Refuses : Form → Option Files → Refusal → Type 0
+Refuses (compile input output) files refusal = (text : List ℕ) × Holds files input (Some text) × RefusesText text refusal
+Refuses (execute program input steps flip) files refusal = RefusesLoad files program input refusal
+Refuses (disasm program) files refusal = RefusesLoad files program None refusal
+Refuses (print input) files refusal = (text : List ℕ) × Holds files input (Some text) × RefusesPrint text refusal
 
 -- a file that the form reads is not there
 abbrev pub Lacks : Form → Option Files → Type 0

@@ -7,7 +7,7 @@ use Rattle.sr_base.specs.Bytes.{TakesPrefix}
 use Rattle.sr_base.specs.Files.{Files, Holds}
 use Rattle.sr_base.specs.Meanings.{StoreMeaning, SinkMeaning}
 use Rattle.sr_command.specs.Words.{Form}
-use Rattle.sr_command.specs.Statuses.{refused_line, line_of}
+use Rattle.sr_command.specs.Statuses.{line_of}
 use Rattle.sr_command.specs.Answers.{IsWritten}
 use Rattle.sr_command.specs.Loads.{HasFile, HasLonger, HasInput, HasLongerInput, LacksInput, IsLoaded, RefusesLoad, LacksLoad}
 use Rattle.sr_command.specs.Runs.{IsAnswered}
@@ -20,7 +20,7 @@ use Rattle.sr_command.specs.declared.status.Status.{Status}
 use Rattle.sr_command.specs.declared.status.Status.TheVariants.{Done, Stopped, StepsOver, ReadFault, WriteFault, NoMemory, Absent}
 use Rattle.sr_command.specs.declared.job.Output.{Output}
 use Rattle.sr_command.specs.declared.job.Job.{Job}
-use Rattle.sr_command.specs.declared.job.Job.TheVariants.{Whole, Refusal, Halt, Unended}
+use Rattle.sr_command.specs.declared.job.Job.TheVariants.{Whole, Refuse, Halt, Unended}
 
 -- the name and the bytes of what is to be written
 abbrev pub output_name : Option Output → Option (List ℕ)
@@ -33,7 +33,7 @@ output_bytes output = option_map (λ o. o.bytes.items) output
 abbrev pub IsJobOf : Form → Option Files → Job → Type 0
 IsJobOf form files (Whole output text line) =
     (output_name output ≡ output_of form) × Gives form files (record { image = output_bytes output; text = text.items; line = line.items })
-IsJobOf form files (Refusal line) = (kind : List ℕ) × Refuses form files kind × (line.items ≡ refused_line kind)
+IsJobOf form files (Refuse why) = Refuses form files why
 IsJobOf form files (Halt text line) = Halts form files Stopped (record { image = None; text = text.items; line = line.items })
 IsJobOf form files (Unended text) = Halts form files StepsOver (record { image = None; text = text.items; line = line_of StepsOver })
 
@@ -90,14 +90,14 @@ FailsInHandOut output text s s' o o' status = ⊥
 abbrev pub IsBuilt : List ℕ → List ℕ → Job → Type 0
 IsBuilt text output (Whole whole out line) =
     (output_name whole ≡ Some output) × GivesExecutable text (record { image = output_bytes whole; text = out.items; line = line.items })
-IsBuilt text output (Refusal line) = (kind : List ℕ) × RefusesText text kind × (line.items ≡ refused_line kind)
+IsBuilt text output (Refuse why) = RefusesText text why
 IsBuilt text output other = ⊥
 
 -- the job of a text that was read, and is to be printed
 abbrev pub IsPrinted : List ℕ → Job → Type 0
 IsPrinted text (Whole whole out line) =
     (output_name whole ≡ None) × GivesPrinted text (record { image = output_bytes whole; text = out.items; line = line.items })
-IsPrinted text (Refusal line) = (kind : List ℕ) × RefusesShort text kind × (line.items ≡ refused_line kind)
+IsPrinted text (Refuse why) = RefusesShort text why
 IsPrinted text other = ⊥
 
 -- what the reading of an input found: its bytes, or a file that is too long
@@ -115,7 +115,7 @@ StopsInput s s' input status = ⊥
 -- what the files of an executable and an input are
 abbrev pub IsLoadedAs : Option Files → List ℕ → Option (List ℕ) → Loaded → Type 0
 IsLoadedAs files program input (Program image content) = IsLoaded files program input image content.items
-IsLoadedAs files program input (Refused kind) = RefusesLoad files program input kind.now
+IsLoadedAs files program input (Refused why) = RefusesLoad files program input why
 
 -- why they were not read
 abbrev pub StopsLoading : StoreMeaning → StoreMeaning → List ℕ → Option (List ℕ) → Status → Type 0
@@ -128,11 +128,6 @@ StopsLoading s s' program input status = ⊥
 abbrev pub IsReport : RunResult → Job → Type 0
 IsReport result (Whole output text line) =
     (output_name output ≡ None) × IsAnswered result Done (record { image = output_bytes output; text = text.items; line = line.items })
-IsReport result (Refusal line) = ⊥
+IsReport result (Refuse why) = ⊥
 IsReport result (Halt text line) = IsAnswered result Stopped (record { image = None; text = text.items; line = line.items })
 IsReport result (Unended text) = IsAnswered result StepsOver (record { image = None; text = text.items; line = line_of StepsOver })
-
--- the job tells a refusal of this kind
-abbrev pub IsRefusal : List ℕ → Job → Type 0
-IsRefusal kind (Refusal line) = line.items ≡ refused_line kind
-IsRefusal kind other = ⊥

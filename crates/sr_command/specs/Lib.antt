@@ -11,7 +11,7 @@ pub mod Loads
 pub mod Runs
 pub mod Disasm
 pub mod Prints
-pub mod Sources
+pub mod Refusals
 pub mod Gives
 pub mod Answers
 pub mod Jobs

@@ -1,10 +1,12 @@
 -- The files that a form reads: a text, or an executable and an input, in this order.
-use Rattle.std.specs.Prelude.{◌≡◌, ◌⊎◌, ◌<◌, ◌≤◌, ℕ, List, [], length, codes, Option, Some, None, Ok, Err}
+use Rattle.std.specs.Prelude.{◌≡◌, ◌⊎◌, ◌<◌, ◌≤◌, ℕ, List, [], length, Option, Some, None, Ok, Err}
 use Rattle.sr_base.specs.Files.{Files, Holds}
 use Rattle.elf_file.specs.Image.{ProgramImage}
 use Rattle.elf_file.specs.Reading.{reading_of}
 use Rattle.elf_file.specs.declared.error.ElfError.{ElfError}
-use Rattle.elf_file.specs.declared.error.ElfError.TheVariants.{NotElf, WrongKind, BadSegment, Overlap, TooLarge, OutOfMemory}
+use Rattle.elf_file.specs.declared.error.ElfError.TheVariants as elf
+use Rattle.sr_command.specs.declared.refusal.Refusal.{Refusal}
+use Rattle.sr_command.specs.declared.refusal.Refusal.TheVariants.{TooLong, NotElf, WrongKind, BadSegment, Overlap, TooLarge}
 
 -- the most bytes that a text, an executable and an input may have
 abbrev pub most_text : ℕ
@@ -53,22 +55,21 @@ pub record IsLoaded (files : Option Files) (program : List ℕ) (input : Option 
   pub read : HasBoth files program input bytes content
   pub is_image : reading_of bytes ≡ Ok image
 
--- the word for why a file is no executable
-abbrev pub kind_of : ElfError → List ℕ
-kind_of NotElf = codes "NotElf"
-kind_of WrongKind = codes "WrongKind"
-kind_of BadSegment = codes "BadSegment"
-kind_of Overlap = codes "Overlap"
-kind_of TooLarge = codes "TooLarge"
-kind_of OutOfMemory = codes "OutOfMemory"
+-- the files are there and within their limits, and the program's is no executable, for this reason
+abbrev pub IsNoExecutable : Option Files → List ℕ → Option (List ℕ) → ElfError → Type 0
+IsNoExecutable files program input error = (bytes content : List ℕ) × HasBoth files program input bytes content × (reading_of bytes ≡ Err error)
 
--- why they are refused: the program's file is too long; or it is not, and the input's is; or neither is, and the program's file is no executable
-abbrev pub RefusesLoad : Option Files → List ℕ → Option (List ℕ) → List ℕ → Type 0
-RefusesLoad files program input kind =
-    (HasLonger files program most_program × (kind ≡ codes "TooLong most=268435456"))
-    ⊎ ((HasProgram files program × HasLongerInput files input × (kind ≡ codes "TooLong most=16777216"))
-    ⊎ ((bytes content : List ℕ) × HasBoth files program input bytes content
-    × ((error : ElfError) × (reading_of bytes ≡ Err error) × (kind ≡ kind_of error))))
+-- why they are refused: the program's file is too long; or it is not, and the input's is; or neither is, and the program's is no executable
+abbrev pub RefusesLoad : Option Files → List ℕ → Option (List ℕ) → Refusal → Type 0
+RefusesLoad files program input (TooLong most) =
+    ((most ≡ most_program) × HasLonger files program most_program)
+    ⊎ ((most ≡ most_input) × HasProgram files program × HasLongerInput files input)
+RefusesLoad files program input NotElf = IsNoExecutable files program input elf.NotElf
+RefusesLoad files program input WrongKind = IsNoExecutable files program input elf.WrongKind
+RefusesLoad files program input BadSegment = IsNoExecutable files program input elf.BadSegment
+RefusesLoad files program input Overlap = IsNoExecutable files program input elf.Overlap
+RefusesLoad files program input TooLarge = IsNoExecutable files program input elf.TooLarge
+RefusesLoad files program input other = ⊥
 
 -- a file isn't there: the program's; or the program's is there and within its limit, and the input's isn't there
 abbrev pub LacksLoad : Option Files → List ℕ → Option (List ℕ) → Type 0

@@ -21,7 +21,3 @@ line_of ReadFault = codes "read fault\n"
 line_of WriteFault = codes "write fault\n"
 line_of NoMemory = codes "no memory\n"
 line_of Absent = codes "absent\n"
-
--- the line of a refusal of this kind
-abbrev pub refused_line : List ℕ → List ℕ
-refused_line kind = codes "refused " ++ (kind ++ 10 ∷ [])

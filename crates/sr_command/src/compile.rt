@@ -10,10 +10,11 @@ ghost use Rattle.sr_command.specs.Loads.{most_text};
 ghost use Rattle.sr_command.specs.Jobs.{IsJobOf, StopsEarly, IsOnlyRead, IsBuilt};
 
 use crate::first_form::{exit_status, returned_number};
-use crate::job::{Job, Output, refuse};
+use crate::job::{Job, Output};
 use crate::loading::{MOST_TEXT, read_file};
 use crate::points::exit_points;
 use crate::program::exit_words;
+use crate::refusal::Refusal;
 use crate::status::Status;
 use point_list::{points, points_text};
 use sr_base::Store;
@@ -38,7 +39,9 @@ fn build<'a>(alloc: Global, text: &[u8], output: &'a str) -> Result<Job<'a>, Sta
     ensures err { IfErr result (λ status. status ≡ Status.NoMemory) }
 {
     let Some(number) = returned_number(text) else {
-        return refuse(alloc, b"NotBuilt");
+        return Ok(Job::Refuse {
+            why: Refusal::NotBuilt,
+        });
     };
     let (bytes, text) = executable(alloc, exit_status(number))?;
     let output = Some(Output {
@@ -61,7 +64,9 @@ pub fn compile<'a, S: Store>(
 {
     match read_file(alloc, input, MOST_TEXT, store) {
         Err(status) => Err(status),
-        Ok(None) => refuse(alloc, b"TooLong most=4194304"),
+        Ok(None) => Ok(Job::Refuse {
+            why: Refusal::TooLong { most: MOST_TEXT },
+        }),
         Ok(Some(text)) => build(alloc, &text, output),
     }
 }

@@ -9,7 +9,7 @@ ghost use Rattle.sr_command.specs.Disasm.{instruction_text, word_line, word_line
 ghost use Rattle.sr_command.specs.Hexadecimal.{eight_digits};
 ghost use Rattle.sr_command.specs.Jobs.{IsJobOf, StopsEarly, IsOnlyRead};
 
-use crate::job::{Job, refuse};
+use crate::job::Job;
 use crate::loading::{Loaded, load};
 use crate::status::Status;
 use byteorder::{ByteOrder, LittleEndian};
@@ -87,7 +87,7 @@ pub fn disasm<'a, S: Store>(alloc: Global, program: &str, store: &mut S) -> Resu
     ensures job { MatchResult result (IsJobOf (disasm_form program.now) (S.meaning store.old).files) (StopsEarly (disasm_form program.now) (S.meaning store.old) (S.meaning store.new)) }
 {
     match load(alloc, program, None, store)? {
-        Loaded::Refused { kind } => refuse(alloc, kind),
+        Loaded::Refused { why } => Ok(Job::Refuse { why }),
         Loaded::Program { image, .. } => {
             let text = disassembly(alloc, &image)?;
             Ok(Job::Whole {

@@ -10,7 +10,7 @@ ghost use Rattle.sr_command.specs.Words.{execute as execute_form};
 ghost use Rattle.sr_command.specs.Runs.{ended_line, cause_word, trap_line};
 ghost use Rattle.sr_command.specs.Jobs.{IsJobOf, StopsEarly, IsOnlyRead, IsReport};
 
-use crate::job::{Job, refuse};
+use crate::job::Job;
 use crate::loading::{Loaded, load};
 use crate::status::Status;
 use rv_machine::Outcome;
@@ -90,7 +90,7 @@ pub fn execute<'a, S: Store>(
     ensures job { MatchResult result (IsJobOf (execute_form program.now (word_bytes input.entry) steps flip) (S.meaning store.old).files) (StopsEarly (execute_form program.now (word_bytes input.entry) steps flip) (S.meaning store.old) (S.meaning store.new)) }
 {
     match load(alloc, program, input, store)? {
-        Loaded::Refused { kind } => refuse(alloc, kind),
+        Loaded::Refused { why } => Ok(Job::Refuse { why }),
         Loaded::Program { image, input } => {
             let outcome = rv_machine::run(alloc, &image, &input, steps, flip)?;
             report(alloc, outcome)

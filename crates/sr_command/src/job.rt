@@ -5,8 +5,9 @@ ghost use Rattle.sr_base.specs.Bytes.{Takes, TakesPrefix};
 ghost use Rattle.sr_base.specs.Meanings.{StoreMeaning, SinkMeaning};
 ghost use Rattle.sr_command.specs.Words.{Form};
 ghost use Rattle.sr_command.specs.Answers.{Tells, IsWritten, KeepsOthers, IsCausedBy, LeavesFilesOf, PutsOutOf, DeliversOf, NotesOf};
-ghost use Rattle.sr_command.specs.Jobs.{output_name, output_bytes, FailsBy, FailsInHandOut, IsMade, IsRefusal};
+ghost use Rattle.sr_command.specs.Jobs.{output_name, output_bytes, FailsBy, FailsInHandOut, IsMade};
 
+use crate::refusal::Refusal;
 use crate::status::Status;
 use sr_base::{Sink, SinkError, Store, StoreError, put_all};
 use std::alloc::Global;
@@ -27,9 +28,9 @@ pub enum Job<'a> {
         text: Vec<u8>,
         line: Vec<u8>,
     },
-    /// To tell on `note` by this line that a file is refused.
-    Refusal {
-        line: Vec<u8>,
+    /// To tell on `note` why a file is refused.
+    Refuse {
+        why: Refusal,
     },
     /// To put the output so far on `out`, and to tell on `note` by this line why the program was stopped.
     Halt {
@@ -40,17 +41,6 @@ pub enum Job<'a> {
     Unended {
         text: Vec<u8>,
     },
-}
-
-/// Returns the job that tells that a file is refused, by a kind.
-pub fn refuse<'a>(alloc: Global, kind: &[u8]) -> Result<Job<'a>, Status>
-    ensures ok { IfOk result (IsRefusal kind.now) }
-    ensures err { IfErr result (λ status. status ≡ Status.NoMemory) }
-{
-    let mut line = Vec::from_slice(alloc, b"refused ")?;
-    line.extend_from_slice(kind)?;
-    line.extend_from_slice(b"\n")?;
-    Ok(Job::Refusal { line })
 }
 
 /// Puts a text, and lets a failure be: the status stays, whatever the sink does.
@@ -112,6 +102,7 @@ fn hand_out<S: Store, O: Sink>(
 
 /// Does the job, or tells why there is none, and answers the status.
 pub fn finish<S: Store, O: Sink, N: Sink>(
+    alloc: Global,
     made: Result<Job<'_>, Status>,
     store: &mut S,
     out: &mut O,
@@ -129,10 +120,16 @@ pub fn finish<S: Store, O: Sink, N: Sink>(
             tell(note, status.line());
             status
         }
-        Ok(Job::Refusal { line }) => {
-            tell(note, &line);
-            Status::Refused
-        }
+        Ok(Job::Refuse { why }) => match why.line(alloc) {
+            Ok(line) => {
+                tell(note, &line);
+                Status::Refused
+            }
+            Err(_) => {
+                tell(note, Status::NoMemory.line());
+                Status::NoMemory
+            }
+        },
         Ok(Job::Halt { text, line }) => {
             tell(out, &text);
             tell(note, &line);

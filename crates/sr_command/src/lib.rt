@@ -12,10 +12,11 @@ mod loading;
 mod points;
 mod print;
 mod program;
-mod source;
+mod refusal;
 mod status;
 mod top;
 mod words;
 
+pub use refusal::Refusal;
 pub use status::Status;
 pub use top::swiftr;

@@ -1,11 +1,13 @@
 //! Texts, executables and their inputs, from files.
 
-ghost use Rattle.std.specs.Prelude.{◌≡◌, ◌≢◌, IfOk, IfErr, MatchResult};
+ghost use Rattle.std.specs.Prelude.{◌≡◌, ℕ, List, Option, IfOk, IfErr, MatchResult};
 ghost use Rattle.sr_base.specs.Meanings.{StoreMeaning};
 ghost use Rattle.sr_command.specs.Commands.{word_bytes};
-ghost use Rattle.sr_command.specs.Loads.{kind_of};
+ghost use Rattle.sr_base.specs.Files.{Files};
+ghost use Rattle.sr_command.specs.Loads.{IsNoExecutable};
 ghost use Rattle.sr_command.specs.Jobs.{IsOnlyRead, IsReadWithin, StopsReading, IsInputAs, StopsInput, IsLoadedAs, StopsLoading};
 
+use crate::refusal::Refusal;
 use crate::status::Status;
 use elf_file::{ElfError, Image};
 use sr_base::{Store, StoreError};
@@ -25,8 +27,8 @@ const MOST_INPUT: usize = 16_777_216;
 pub enum Loaded {
     /// The executable's image, and the input.
     Program { image: Image, input: Vec<u8> },
-    /// One of them is refused, by this kind.
-    Refused { kind: &'static [u8] },
+    /// One of them is refused, for this reason.
+    Refused { why: Refusal },
 }
 
 /// Reads a file; `None` where it has more than `most` bytes.
@@ -65,19 +67,21 @@ fn read_input<S: Store>(
     }
 }
 
-/// Returns the word for why a file is no executable; there is none where memory runs out.
-fn kind_of(error: ElfError) -> Result<&'static [u8], Status>
-    ensures ok { IfOk result (λ kind. (kind.now ≡ kind_of error) × (error ≢ ElfError.OutOfMemory)) }
+/// Returns what a file is that is no executable; `NoMemory` where memory ran out.
+fn no_executable(error: ElfError) -> Result<Loaded, Status>
+    ensures ok { (files : Option Files) (program : List ℕ) (input : Option (List ℕ)) →
+        IsNoExecutable files program input error → IfOk result (IsLoadedAs files program input) }
     ensures err { IfErr result (λ status. status ≡ Status.NoMemory) }
 {
-    match error {
-        ElfError::NotElf => Ok(b"NotElf"),
-        ElfError::WrongKind => Ok(b"WrongKind"),
-        ElfError::BadSegment => Ok(b"BadSegment"),
-        ElfError::Overlap => Ok(b"Overlap"),
-        ElfError::TooLarge => Ok(b"TooLarge"),
-        ElfError::OutOfMemory => Err(Status::NoMemory),
-    }
+    let why = match error {
+        ElfError::NotElf => Refusal::NotElf,
+        ElfError::WrongKind => Refusal::WrongKind,
+        ElfError::BadSegment => Refusal::BadSegment,
+        ElfError::Overlap => Refusal::Overlap,
+        ElfError::TooLarge => Refusal::TooLarge,
+        ElfError::OutOfMemory => return Err(Status::NoMemory),
+    };
+    Ok(Loaded::Refused { why })
 }
 
 /// Reads an executable, and then its input.
@@ -92,12 +96,12 @@ pub fn load<S: Store>(
 {
     let Some(bytes) = read_file(alloc, program, MOST_PROGRAM, store)? else {
         return Ok(Loaded::Refused {
-            kind: b"TooLong most=268435456",
+            why: Refusal::TooLong { most: MOST_PROGRAM },
         });
     };
     let Some(content) = read_input(alloc, input, store)? else {
         return Ok(Loaded::Refused {
-            kind: b"TooLong most=16777216",
+            why: Refusal::TooLong { most: MOST_INPUT },
         });
     };
     match elf_file::read(alloc, &bytes) {
@@ -105,8 +109,6 @@ pub fn load<S: Store>(
             image,
             input: content,
         }),
-        Err(error) => Ok(Loaded::Refused {
-            kind: kind_of(error)?,
-        }),
+        Err(error) => no_executable(error),
     }
 }

@@ -6,10 +6,11 @@ ghost use Rattle.sr_command.specs.Loads.{most_text};
 ghost use Rattle.sr_command.specs.Words.{print as print_form};
 ghost use Rattle.sr_command.specs.Jobs.{IsJobOf, StopsEarly, IsOnlyRead, IsPrinted};
 
-use crate::job::{Job, refuse};
+use crate::job::Job;
 use crate::loading::{MOST_TEXT, read_file};
-use crate::source::{Source, source_of};
+use crate::refusal::{Refusal, text_refusal};
 use crate::status::Status;
+use ir_source::read_source;
 use sr_base::Store;
 use std::alloc::Global;
 
@@ -19,10 +20,12 @@ fn print_text<'a>(alloc: Global, text: &[u8]) -> Result<Job<'a>, Status>
     ensures ok { IfOk result (IsPrinted text.now) }
     ensures err { IfErr result (λ status. status ≡ Status.NoMemory) }
 {
-    match source_of(alloc, text)? {
-        Source::Refused { kind } => refuse(alloc, &kind),
-        Source::Accepted { module } => {
-            let text = ir_print::print(alloc, &module)?;
+    match read_source(alloc, text) {
+        Err(error) => Ok(Job::Refuse {
+            why: text_refusal(alloc, text, error)?,
+        }),
+        Ok(parsed) => {
+            let text = ir_print::print(alloc, &parsed.module)?;
             Ok(Job::Whole {
                 output: None,
                 text,
@@ -39,7 +42,9 @@ pub fn print<'a, S: Store>(alloc: Global, input: &str, store: &mut S) -> Result<
 {
     match read_file(alloc, input, MOST_TEXT, store) {
         Err(status) => Err(status),
-        Ok(None) => refuse(alloc, b"TooLong most=4194304"),
+        Ok(None) => Ok(Job::Refuse {
+            why: Refusal::TooLong { most: MOST_TEXT },
+        }),
         Ok(Some(text)) => print_text(alloc, &text),
     }
 }

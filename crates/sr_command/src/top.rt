@@ -59,7 +59,7 @@ fn run_command<S: Store, O: Sink, N: Sink>(
     ensures complete { IsComplete (Some (meant command.entry)) result (S.meaning store.old) (S.meaning store.new) (O.meaning out.old) (O.meaning out.new) (N.meaning note.old) (N.meaning note.new) }
 {
     let made = make_job(alloc, command, store);
-    finish(made, store, out, note)
+    finish(alloc, made, store, out, note)
 }
 
 /// Runs the command that the words are, and answers its status.

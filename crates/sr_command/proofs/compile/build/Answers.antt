@@ -1,9 +1,6 @@
 use Rattle.std.proofs.Common.{refl}
-use Rattle.sr_command.proofs.JobLaws.{not_built, gives_executable, returned_kept}
+use Rattle.sr_command.proofs.JobLaws.{gives_executable, returned_kept}
 use Rattle.sr_command.proofs.compile.build.Goals as goal
-
-pub returns-in_default-clause-ok : goal.returns-in_default-clause-ok
-returns-in_default-clause-ok c = not_built c.refuse.result c.args.text.now c.args.output.now c.requires c.in_default.ensures.none c.refuse.ensures.ok
 
 pub returns-clause-ok : goal.returns-clause-ok
 returns-clause-ok c =

@@ -1,12 +1,12 @@
-use Rattle.std.proofs.Common.{ℕ, List, subst, IfOk}
+use Rattle.std.proofs.Common.{ℕ, List, refl, subst, IfOk}
 use Rattle.sr_command.specs.Jobs.{IsPrinted}
-use Rattle.sr_command.proofs.PrintLaws.{too_long_print, print_job}
+use Rattle.sr_command.proofs.PrintLaws.{print_job}
 use Rattle.sr_command.proofs.print.print.Goals as goal
 
 pub returns-in-Ok-None-clause-job : goal.returns-in-Ok-None-clause-job
 returns-in-Ok-None-clause-job g c =
-    too_long_print c.refuse.result (g.S.Store.meaning c.args.store.now) (g.S.Store.meaning c.read_file.new.store) c.args.input.now
-    (rw c.in-Ok-None.field-0-is at c.in-Ok-None.ensures.ok) c.refuse.ensures.ok c.refuse.ensures.err
+    let long = rw c.in-Ok-None.field-0-is at c.in-Ok-None.ensures.ok in
+    (long.0, long.1, (refl, long.2))
 
 pub returns-in-Ok-Some-clause-job : goal.returns-in-Ok-Some-clause-job
 returns-in-Ok-Some-clause-job g c =

@@ -1,6 +1,6 @@
 use Rattle.std.proofs.Common.{◌≡◌, ℕ, ◌-◌, min, List, length, take, drop, ap, ◌∙◌}
 use Rattle.std.proofs.lemmas.List.{take_rest, take_min, drop_min}
-use Rattle.sr_command.proofs.source.bytes_at.Goals as goal
+use Rattle.sr_command.proofs.refusal.bytes_at.Goals as goal
 
 -- a part of a text, with its ends kept within the text
 clamped : (text : List ℕ) (at len m k : ℕ) → m ≡ min at (length text) → k ≡ min len (length (take (length text - m) (drop m text)))

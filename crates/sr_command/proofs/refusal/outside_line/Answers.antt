@@ -1,8 +1,8 @@
 use Rattle.std.proofs.Common.{ap, ◌∙◌, append_assoc}
-use Rattle.sr_command.proofs.source.outside_kind.Goals as goal
+use Rattle.sr_command.proofs.refusal.outside_line.Goals as goal
 
 pub returns : goal.returns
 returns c =
-    let place = ap (λ v. v.items) c.into_bytes-kind.ensures.value ∙ c.in_ok-place.ensures.ok in
+    let place = ap (λ v. v.items) c.into_bytes-line.ensures.value ∙ c.in_ok-place.ensures.ok in
     let whole = rw place at c.in_ok-extend_from_slice.ensures.items in
     whole ∙ simp append_assoc

@@ -1,0 +1,3 @@
+mod FewTokens
+mod Reading
+pub mod OneWay
