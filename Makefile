@@ -43,6 +43,9 @@ demo:
 test:
 	@.ci/run
 
+lint:
+	@scripts/lint
+
 documents:
 	@scripts/check_documents
 

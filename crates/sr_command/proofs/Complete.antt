@@ -1,7 +1,6 @@
 -- What can be done is done, where no fault comes and memory suffices: each other status has a cause against it.
 use Rattle.std.proofs.Common.{◌≡◌, ℕ, ℤ, List, [], inl, inr, refl, arith, subst, sym, ◌∙◌, ap, Option, Some, None, IsSome}
 use Rattle.sr_base.specs.Files.{Files, held, Holds}
-use Rattle.sr_base.specs.Meanings.{StoreMeaning, SinkMeaning}
 use Rattle.sr_command.specs.Words.{Form, compile, execute, disasm, print}
 use Rattle.rv_model.specs.declared.Flip.{Flip}
 use Rattle.rv_model.specs.Run.{run}
@@ -14,7 +13,7 @@ use Rattle.sr_command.specs.Prints.{HasModule}
 use Rattle.sr_command.specs.Yield.{Yield}
 use Rattle.sr_command.proofs.LoadLaws.{one_load, load_not_refused, load_there}
 use Rattle.sr_command.proofs.PrintLaws.{printed_not_refused}
-use Rattle.sr_command.specs.Answers.{IsCausedBy, IsComplete}
+use Rattle.sr_command.specs.Answers.{World, IsCausedBy, IsComplete}
 use Rattle.sr_command.specs.declared.refusal.Refusal.{Refusal}
 use Rattle.sr_command.specs.declared.refusal.Refusal.TheVariants.{TooLong, NotBuilt}
 use Rattle.sr_command.specs.declared.status.Status.{Status}
@@ -65,46 +64,46 @@ not_stopped e = cc
 not_over : Done ≡ StepsOver → ⊥
 not_over e = cc
 
-pub completes : (form : Form) (status : Status) (s s' : StoreMeaning) (o o' n n' : SinkMeaning) → IsCausedBy form status s s' o o' n n' → IsComplete (Some form) status s s' o o' n n'
-completes (compile input output) Done s s' o o' n n' cause = λ can faultless. inl refl
-completes (compile input output) Usage s s' o o' n n' cause = absurd cause
-completes (compile input output) Refused s s' o o' n n' (why, (text, holds, refuses)) = λ (there, number, held_there, accepted) faultless.
-    absurd (not_refused text why number (subst (λ (t : List ℕ). IsAccepted t number) (same_file s.files input there text held_there holds) accepted) refuses)
-completes (compile input output) Stopped s s' o o' n n' cause = absurd cause.1
-completes (compile input output) StepsOver s s' o o' n n' cause = absurd cause.1
-completes (compile input output) ReadFault s s' o o' n n' cause = λ can faultless. absurd (faultless.0 cause)
-completes (compile input output) WriteFault s s' o o' n n' cause = λ can faultless. absurd (faultless.1 cause.1)
-completes (compile input output) NoMemory s s' o o' n n' cause = λ can faultless. inr refl
-completes (compile input output) Absent s s' o o' n n' cause = λ (there, number, held_there, accepted) faultless. absurd (not_absent s.files input there held_there cause)
-completes (execute program input steps flip) Done s s' o o' n n' cause = λ can faultless. inl refl
-completes (execute program input steps flip) Usage s s' o o' n n' cause = absurd cause
-completes (execute program input steps flip) Refused s s' o o' n n' (why, refuses) = λ (told, (given, gives)) faultless.
-    absurd (run_not_refused s.files program why input steps flip Done given told gives refuses)
-completes (execute program input steps flip) Stopped s s' o o' n n' (other, halts) = λ (told, (given, gives)) faultless.
-    absurd (not_stopped (one_status s.files program input steps flip Done Stopped given other told gives halts))
-completes (execute program input steps flip) StepsOver s s' o o' n n' (other, halts) = λ (told, (given, gives)) faultless.
-    absurd (not_over (one_status s.files program input steps flip Done StepsOver given other told gives halts))
-completes (execute program input steps flip) ReadFault s s' o o' n n' cause = λ can faultless. absurd (faultless.0 cause)
-completes (execute program input steps flip) WriteFault s s' o o' n n' cause = λ can faultless. absurd (faultless.1 cause.1)
-completes (execute program input steps flip) NoMemory s s' o o' n n' cause = λ can faultless. inr refl
-completes (execute program input steps flip) Absent s s' o o' n n' cause = λ (told, (given, gives)) faultless.
-    absurd (run_there s.files program input steps flip Done given told gives cause)
-completes (disasm program) Done s s' o o' n n' cause = λ can faultless. inl refl
-completes (disasm program) Usage s s' o o' n n' cause = absurd cause
-completes (disasm program) Refused s s' o o' n n' (why, refuses) = λ (told, (given, gives)) faultless. absurd (listed_not_refused s.files program why given told gives refuses)
-completes (disasm program) Stopped s s' o o' n n' cause = absurd cause.1
-completes (disasm program) StepsOver s s' o o' n n' cause = absurd cause.1
-completes (disasm program) ReadFault s s' o o' n n' cause = λ can faultless. absurd (faultless.0 cause)
-completes (disasm program) WriteFault s s' o o' n n' cause = λ can faultless. absurd (faultless.1 cause.1)
-completes (disasm program) NoMemory s s' o o' n n' cause = λ can faultless. inr refl
-completes (disasm program) Absent s s' o o' n n' cause = λ (told, (given, gives)) faultless. absurd (listed_there s.files program given told gives cause)
-completes (print input) Done s s' o o' n n' cause = λ can faultless. inl refl
-completes (print input) Usage s s' o o' n n' cause = absurd cause
-completes (print input) Refused s s' o o' n n' (why, (text, holds, refuses)) = λ (there, m, held_there, printable) faultless.
-    absurd (printed_not_refused text why m (subst (λ (t : List ℕ). HasModule t m) (same_file s.files input there text held_there holds) printable) refuses)
-completes (print input) Stopped s s' o o' n n' cause = absurd cause.1
-completes (print input) StepsOver s s' o o' n n' cause = absurd cause.1
-completes (print input) ReadFault s s' o o' n n' cause = λ can faultless. absurd (faultless.0 cause)
-completes (print input) WriteFault s s' o o' n n' cause = λ can faultless. absurd (faultless.1 cause.1)
-completes (print input) NoMemory s s' o o' n n' cause = λ can faultless. inr refl
-completes (print input) Absent s s' o o' n n' cause = λ (there, m, held_there, printable) faultless. absurd (not_absent s.files input there held_there cause)
+pub completes : (form : Form) (status : Status) (w w' : World) → IsCausedBy form status w w' → IsComplete (Some form) status w w'
+completes (compile input output) Done w w' cause = λ can faultless. inl refl
+completes (compile input output) Usage w w' cause = absurd cause
+completes (compile input output) Refused w w' (why, (text, holds, refuses)) = λ (there, number, held_there, accepted) faultless.
+    absurd (not_refused text why number (subst (λ (t : List ℕ). IsAccepted t number) (same_file w.store.files input there text held_there holds) accepted) refuses)
+completes (compile input output) Stopped w w' cause = absurd cause.1
+completes (compile input output) StepsOver w w' cause = absurd cause.1
+completes (compile input output) ReadFault w w' cause = λ can faultless. absurd (faultless.0 cause)
+completes (compile input output) WriteFault w w' cause = λ can faultless. absurd (faultless.1 cause.1)
+completes (compile input output) NoMemory w w' cause = λ can faultless. inr refl
+completes (compile input output) Absent w w' cause = λ (there, number, held_there, accepted) faultless. absurd (not_absent w.store.files input there held_there cause)
+completes (execute program input steps flip) Done w w' cause = λ can faultless. inl refl
+completes (execute program input steps flip) Usage w w' cause = absurd cause
+completes (execute program input steps flip) Refused w w' (why, refuses) = λ (told, (given, gives)) faultless.
+    absurd (run_not_refused w.store.files program why input steps flip Done given told gives refuses)
+completes (execute program input steps flip) Stopped w w' (other, halts) = λ (told, (given, gives)) faultless.
+    absurd (not_stopped (one_status w.store.files program input steps flip Done Stopped given other told gives halts))
+completes (execute program input steps flip) StepsOver w w' (other, halts) = λ (told, (given, gives)) faultless.
+    absurd (not_over (one_status w.store.files program input steps flip Done StepsOver given other told gives halts))
+completes (execute program input steps flip) ReadFault w w' cause = λ can faultless. absurd (faultless.0 cause)
+completes (execute program input steps flip) WriteFault w w' cause = λ can faultless. absurd (faultless.1 cause.1)
+completes (execute program input steps flip) NoMemory w w' cause = λ can faultless. inr refl
+completes (execute program input steps flip) Absent w w' cause = λ (told, (given, gives)) faultless.
+    absurd (run_there w.store.files program input steps flip Done given told gives cause)
+completes (disasm program) Done w w' cause = λ can faultless. inl refl
+completes (disasm program) Usage w w' cause = absurd cause
+completes (disasm program) Refused w w' (why, refuses) = λ (told, (given, gives)) faultless. absurd (listed_not_refused w.store.files program why given told gives refuses)
+completes (disasm program) Stopped w w' cause = absurd cause.1
+completes (disasm program) StepsOver w w' cause = absurd cause.1
+completes (disasm program) ReadFault w w' cause = λ can faultless. absurd (faultless.0 cause)
+completes (disasm program) WriteFault w w' cause = λ can faultless. absurd (faultless.1 cause.1)
+completes (disasm program) NoMemory w w' cause = λ can faultless. inr refl
+completes (disasm program) Absent w w' cause = λ (told, (given, gives)) faultless. absurd (listed_there w.store.files program given told gives cause)
+completes (print input) Done w w' cause = λ can faultless. inl refl
+completes (print input) Usage w w' cause = absurd cause
+completes (print input) Refused w w' (why, (text, holds, refuses)) = λ (there, m, held_there, printable) faultless.
+    absurd (printed_not_refused text why m (subst (λ (t : List ℕ). HasModule t m) (same_file w.store.files input there text held_there holds) printable) refuses)
+completes (print input) Stopped w w' cause = absurd cause.1
+completes (print input) StepsOver w w' cause = absurd cause.1
+completes (print input) ReadFault w w' cause = λ can faultless. absurd (faultless.0 cause)
+completes (print input) WriteFault w w' cause = λ can faultless. absurd (faultless.1 cause.1)
+completes (print input) NoMemory w w' cause = λ can faultless. inr refl
+completes (print input) Absent w w' cause = λ (there, m, held_there, printable) faultless. absurd (not_absent w.store.files input there held_there cause)

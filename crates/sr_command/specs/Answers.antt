@@ -12,6 +12,16 @@ use Rattle.sr_command.specs.declared.refusal.Refusal.{Refusal}
 use Rattle.sr_command.specs.declared.status.Status.{Status}
 use Rattle.sr_command.specs.declared.status.Status.TheVariants.{Done, Usage, Refused, Stopped, StepsOver, ReadFault, WriteFault, NoMemory, Absent}
 
+-- what the command acts on: the files, and what `out` and `note` have taken, each with its counts
+pub record World : Type 0 where
+  pub store : StoreMeaning
+  pub out : SinkMeaning
+  pub note : SinkMeaning
+
+-- the world of these three
+abbrev pub world : StoreMeaning → SinkMeaning → SinkMeaning → World
+world store out note = record { store = store; out = out; note = note }
+
 -- a text was put: a prefix was taken, the whole of it unless a count of the sink rose
 pub record Tells (old new : SinkMeaning) (text : List ℕ) : Type 0 where
   pub prefix : TakesPrefix old.taken new.taken text
@@ -27,93 +37,132 @@ abbrev pub KeepsOthers : Option (List ℕ) → Option Files → Option Files →
 KeepsOthers None old new = new ≡ old
 KeepsOthers (Some name) old new = SameBut name old new
 
+-- the store failed to write: its count rose
+abbrev pub StoreFails : World → World → Type 0
+StoreFails w w' = Rose w.store.write_faults w'.store.write_faults
+
+-- `out` failed
+abbrev pub OutFails : World → World → Type 0
+OutFails w w' = Rose w.out.faults w'.out.faults
+
+-- `note` failed
+abbrev pub NoteFails : World → World → Type 0
+NoteFails w w' = Rose w.note.faults w'.note.faults
+
 -- what a write fault comes from: the store's count, that of `out`, and for some forms that of `note`
-abbrev pub HasWriteFault : Form → StoreMeaning → StoreMeaning → SinkMeaning → SinkMeaning → SinkMeaning → SinkMeaning → Type 0
-HasWriteFault (compile input output) s s' o o' n n' = Rose s.write_faults s'.write_faults ⊎ Rose o.faults o'.faults
-HasWriteFault (execute program input steps flip) s s' o o' n n' = Rose o.faults o'.faults ⊎ Rose n.faults n'.faults
-HasWriteFault (disasm program) s s' o o' n n' = Rose o.faults o'.faults
-HasWriteFault (print input) s s' o o' n n' = Rose o.faults o'.faults
+abbrev pub HasWriteFault : Form → World → World → Type 0
+HasWriteFault (compile input output) w w' = StoreFails w w' ⊎ OutFails w w'
+HasWriteFault (execute program input steps flip) w w' = OutFails w w' ⊎ NoteFails w w'
+HasWriteFault (disasm program) w w' = OutFails w w'
+HasWriteFault (print input) w w' = OutFails w w'
+
+-- all is done: the output holds what the form gives, and `out` has taken the text that goes with it
+abbrev pub IsDone : Form → World → World → Type 0
+IsDone form w w' = (given : Yield) × Gives form w.store.files given × IsWritten (output_of form) w'.store.files given.image
+    × Takes w.out.taken w'.out.taken given.text
 
 -- why words of this form end with a status; two causes of different statuses shut one another out
-abbrev pub IsCausedBy : Form → Status → StoreMeaning → StoreMeaning → SinkMeaning → SinkMeaning → SinkMeaning → SinkMeaning → Type 0
-IsCausedBy form Done s s' o o' n n' = (given : Yield) × Gives form s.files given × IsWritten (output_of form) s'.files given.image × Takes o.taken o'.taken given.text
-IsCausedBy form Usage s s' o o' n n' = ⊥
-IsCausedBy form Refused s s' o o' n n' = (why : Refusal) × Refuses form s.files why
-IsCausedBy form Stopped s s' o o' n n' = (given : Yield) × Halts form s.files Stopped given
-IsCausedBy form StepsOver s s' o o' n n' = (given : Yield) × Halts form s.files StepsOver given
-IsCausedBy form ReadFault s s' o o' n n' = Rose s.read_faults s'.read_faults
-IsCausedBy form WriteFault s s' o o' n n' = ((given : Yield) × Gives form s.files given) × HasWriteFault form s s' o o' n n'
-IsCausedBy form NoMemory s s' o o' n n' = Unit {0}
-IsCausedBy form Absent s s' o o' n n' = Lacks form s.files
+abbrev pub IsCausedBy : Form → Status → World → World → Type 0
+IsCausedBy form Done w w' = IsDone form w w'
+IsCausedBy form Usage w w' = ⊥
+IsCausedBy form Refused w w' = (why : Refusal) × Refuses form w.store.files why
+IsCausedBy form Stopped w w' = (given : Yield) × Halts form w.store.files Stopped given
+IsCausedBy form StepsOver w w' = (given : Yield) × Halts form w.store.files StepsOver given
+IsCausedBy form ReadFault w w' = Rose w.store.read_faults w'.store.read_faults
+IsCausedBy form WriteFault w w' = ((given : Yield) × Gives form w.store.files given) × HasWriteFault form w w'
+IsCausedBy form NoMemory w w' = Unit {0}
+IsCausedBy form Absent w w' = Lacks form w.store.files
 
 -- why words end with a status: without a form it is a usage, and only then
-abbrev pub IsCaused : Option Form → Status → StoreMeaning → StoreMeaning → SinkMeaning → SinkMeaning → SinkMeaning → SinkMeaning → Type 0
-IsCaused None status s s' o o' n n' = status ≡ Usage
-IsCaused (Some form) status s s' o o' n n' = IsCausedBy form status s s' o o' n n'
+abbrev pub IsCaused : Option Form → Status → World → World → Type 0
+IsCaused None status w w' = status ≡ Usage
+IsCaused (Some form) status w w' = IsCausedBy form status w w'
 
 -- what becomes of the files: only the output of the form may change, and only where a write was begun
-abbrev pub LeavesFilesOf : Form → Status → StoreMeaning → StoreMeaning → SinkMeaning → SinkMeaning → Type 0
-LeavesFilesOf form Done s s' o o' = KeepsOthers (output_of form) s.files s'.files
-LeavesFilesOf form WriteFault s s' o o' = KeepsOthers (output_of form) s.files s'.files
-LeavesFilesOf form NoMemory s s' o o' = KeepsOthers (output_of form) s.files s'.files
-    × ((s'.files ≡ s.files) ⊎ (Rose s.write_wants s'.write_wants ⊎ Rose o.wants o'.wants))
-LeavesFilesOf form status s s' o o' = s'.files ≡ s.files
+abbrev pub LeavesFilesOf : Form → Status → World → World → Type 0
+LeavesFilesOf form Done w w' = KeepsOthers (output_of form) w.store.files w'.store.files
+LeavesFilesOf form WriteFault w w' = KeepsOthers (output_of form) w.store.files w'.store.files
+LeavesFilesOf form NoMemory w w' = KeepsOthers (output_of form) w.store.files w'.store.files
+    × ((w'.store.files ≡ w.store.files) ⊎ (Rose w.store.write_wants w'.store.write_wants ⊎ Rose w.out.wants w'.out.wants))
+LeavesFilesOf form status w w' = w'.store.files ≡ w.store.files
 
-abbrev pub LeavesFiles : Option Form → Status → StoreMeaning → StoreMeaning → SinkMeaning → SinkMeaning → Type 0
-LeavesFiles None status s s' o o' = s' ≡ s
-LeavesFiles (Some form) status s s' o o' = LeavesFilesOf form status s s' o o'
+-- words without a form leave the store as it was
+abbrev pub LeavesFiles : Option Form → Status → World → World → Type 0
+LeavesFiles None status w w' = w'.store ≡ w.store
+LeavesFiles (Some form) status w w' = LeavesFilesOf form status w w'
 
 -- the output holds what the form gives, and `out` has taken a prefix of the text that goes with it
-abbrev pub Delivers : Form → StoreMeaning → StoreMeaning → SinkMeaning → SinkMeaning → Type 0
-Delivers form s s' o o' =
-    (given : Yield) × Gives form s.files given × IsWritten (output_of form) s'.files given.image × TakesPrefix o.taken o'.taken given.text
+abbrev pub Delivers : Form → World → World → Type 0
+Delivers form w w' = (given : Yield) × Gives form w.store.files given × IsWritten (output_of form) w'.store.files given.image
+    × TakesPrefix w.out.taken w'.out.taken given.text
 
 -- so it is too where only `out` failed, or wanted memory
-abbrev pub DeliversOf : Form → Status → StoreMeaning → StoreMeaning → SinkMeaning → SinkMeaning → Type 0
-DeliversOf form WriteFault s s' o o' = (Rose s.write_faults s'.write_faults → ⊥) → Delivers form s s' o o'
-DeliversOf form NoMemory s s' o o' = o.wants < o'.wants → Delivers form s s' o o'
-DeliversOf form status s s' o o' = Unit {0}
+abbrev pub DeliversOf : Form → Status → World → World → Type 0
+DeliversOf form WriteFault w w' = (StoreFails w w' → ⊥) → Delivers form w w'
+DeliversOf form NoMemory w w' = w.out.wants < w'.out.wants → Delivers form w w'
+DeliversOf form status w w' = Unit {0}
 
-abbrev pub DeliversStill : Option Form → Status → StoreMeaning → StoreMeaning → SinkMeaning → SinkMeaning → Type 0
-DeliversStill None status s s' o o' = Unit {0}
-DeliversStill (Some form) status s s' o o' = DeliversOf form status s s' o o'
+-- words without a form deliver nothing
+abbrev pub DeliversStill : Option Form → Status → World → World → Type 0
+DeliversStill None status w w' = Unit {0}
+DeliversStill (Some form) status w w' = DeliversOf form status w w'
 
 -- what `out` has taken: nothing; the output so far, unless a count of it rose; or a prefix of the text that the form gives
-abbrev pub PutsOutOf : Form → Status → StoreMeaning → SinkMeaning → SinkMeaning → Type 0
-PutsOutOf form Usage s o o' = o' ≡ o
-PutsOutOf form Refused s o o' = o' ≡ o
-PutsOutOf form Stopped s o o' = (given : Yield) × Halts form s.files Stopped given × Tells o o' given.text
-PutsOutOf form StepsOver s o o' = (given : Yield) × Halts form s.files StepsOver given × Tells o o' given.text
-PutsOutOf form ReadFault s o o' = o' ≡ o
-PutsOutOf form Absent s o o' = o' ≡ o
-PutsOutOf form status s o o' = (o' ≡ o) ⊎ ((given : Yield) × Gives form s.files given × TakesPrefix o.taken o'.taken given.text)
+abbrev pub PutsOutOf : Form → Status → World → World → Type 0
+PutsOutOf form Usage w w' = w'.out ≡ w.out
+PutsOutOf form Refused w w' = w'.out ≡ w.out
+PutsOutOf form Stopped w w' = (given : Yield) × Halts form w.store.files Stopped given × Tells w.out w'.out given.text
+PutsOutOf form StepsOver w w' = (given : Yield) × Halts form w.store.files StepsOver given × Tells w.out w'.out given.text
+PutsOutOf form ReadFault w w' = w'.out ≡ w.out
+PutsOutOf form Absent w w' = w'.out ≡ w.out
+PutsOutOf form status w w' =
+    (w'.out ≡ w.out) ⊎ ((given : Yield) × Gives form w.store.files given × TakesPrefix w.out.taken w'.out.taken given.text)
 
-abbrev pub PutsOut : Option Form → Status → StoreMeaning → SinkMeaning → SinkMeaning → Type 0
-PutsOut None status s o o' = o' ≡ o
-PutsOut (Some form) status s o o' = PutsOutOf form status s o o'
+-- words without a form put nothing on `out`
+abbrev pub PutsOut : Option Form → Status → World → World → Type 0
+PutsOut None status w w' = w'.out ≡ w.out
+PutsOut (Some form) status w w' = PutsOutOf form status w w'
 
 -- `note` failed in the form's own line, of which it has taken a prefix and nothing more: this count of it rose
-abbrev pub BreaksOff : Form → StoreMeaning → SinkMeaning → SinkMeaning → ℕ → ℕ → Type 0
-BreaksOff form s n n' count count' = (given : Yield) × Gives form s.files given × TakesPrefix n.taken n'.taken given.line × Rose count count'
+abbrev pub BreaksOff : Form → World → World → ℕ → ℕ → Type 0
+BreaksOff form w w' count count' =
+    (given : Yield) × Gives form w.store.files given × TakesPrefix w.note.taken w'.note.taken given.line × Rose count count'
 
 -- what `note` has taken: where all was done the form's own line, which may be none, and else the status's line
-abbrev pub NotesOf : Form → Status → StoreMeaning → SinkMeaning → SinkMeaning → Type 0
-NotesOf form Done s n n' = (given : Yield) × Gives form s.files given × Takes n.taken n'.taken given.line × (given.line ≡ [] → n' ≡ n)
-NotesOf form Refused s n n' = (why : Refusal) × Refuses form s.files why × Tells n n' (refused_line why)
-NotesOf form Stopped s n n' = (given : Yield) × Halts form s.files Stopped given × Tells n n' given.line
-NotesOf form WriteFault s n n' = Tells n n' (line_of WriteFault) ⊎ BreaksOff form s n n' n.faults n'.faults
-NotesOf form NoMemory s n n' = Tells n n' (line_of NoMemory) ⊎ BreaksOff form s n n' n.wants n'.wants
-NotesOf form status s n n' = Tells n n' (line_of status)
+abbrev pub NotesOf : Form → Status → World → World → Type 0
+NotesOf form Done w w' = (given : Yield) × Gives form w.store.files given × Takes w.note.taken w'.note.taken given.line
+    × (given.line ≡ [] → w'.note ≡ w.note)
+NotesOf form Refused w w' = (why : Refusal) × Refuses form w.store.files why × Tells w.note w'.note (refused_line why)
+NotesOf form Stopped w w' = (given : Yield) × Halts form w.store.files Stopped given × Tells w.note w'.note given.line
+NotesOf form WriteFault w w' = Tells w.note w'.note (line_of WriteFault) ⊎ BreaksOff form w w' w.note.faults w'.note.faults
+NotesOf form NoMemory w w' = Tells w.note w'.note (line_of NoMemory) ⊎ BreaksOff form w w' w.note.wants w'.note.wants
+NotesOf form status w w' = Tells w.note w'.note (line_of status)
 
-abbrev pub Notes : Option Form → Status → StoreMeaning → SinkMeaning → SinkMeaning → Type 0
-Notes None status s n n' = Tells n n' (line_of Usage)
-Notes (Some form) status s n n' = NotesOf form status s n n'
+-- words without a form are told as a usage
+abbrev pub Notes : Option Form → Status → World → World → Type 0
+Notes None status w w' = Tells w.note w'.note (line_of Usage)
+Notes (Some form) status w w' = NotesOf form status w w'
 
 -- no fault came that a status tells
-abbrev pub IsFaultless : Form → StoreMeaning → StoreMeaning → SinkMeaning → SinkMeaning → SinkMeaning → SinkMeaning → Type 0
-IsFaultless form s s' o o' n n' = (Rose s.read_faults s'.read_faults → ⊥) × (HasWriteFault form s s' o o' n n' → ⊥)
+abbrev pub IsFaultless : Form → World → World → Type 0
+IsFaultless form w w' = (Rose w.store.read_faults w'.store.read_faults → ⊥) × (HasWriteFault form w w' → ⊥)
 
--- where the form can be done and no fault comes, all is done, or memory is wanting
-abbrev pub IsComplete : Option Form → Status → StoreMeaning → StoreMeaning → SinkMeaning → SinkMeaning → SinkMeaning → SinkMeaning → Type 0
-IsComplete None status s s' o o' n n' = Unit {0}
-IsComplete (Some form) status s s' o o' n n' = CanBeDone form s.files → IsFaultless form s s' o o' n n' → (status ≡ Done) ⊎ (status ≡ NoMemory)
+-- where the form can be done and no fault comes, all is done, or memory runs out
+abbrev pub IsComplete : Option Form → Status → World → World → Type 0
+IsComplete None status w w' = Unit {0}
+IsComplete (Some form) status w w' = CanBeDone form w.store.files → IsFaultless form w w' → (status ≡ Done) ⊎ (status ≡ NoMemory)
+
+-- what the command promises of words with this form, or with none: its status, from the world before to the world after
+pub record IsAnswer (form : Option Form) (status : Status) (w w' : World) : Type 0 where
+  -- why the status comes
+  pub cause : IsCaused form status w w'
+  -- what becomes of the files
+  pub files : LeavesFiles form status w w'
+  -- what `out` has taken
+  pub out : PutsOut form status w w'
+  -- what is delivered still, where only `out` failed
+  pub delivers : DeliversStill form status w w'
+  -- what `note` has taken
+  pub note : Notes form status w w'
+  -- words of a form, files that are there and accepted, and no fault: all is done, or memory runs out
+  pub complete : IsComplete form status w w'

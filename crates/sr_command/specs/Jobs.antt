@@ -22,10 +22,11 @@ use Rattle.sr_command.specs.declared.job.Output.{Output}
 use Rattle.sr_command.specs.declared.job.Job.{Job}
 use Rattle.sr_command.specs.declared.job.Job.TheVariants.{Whole, Refuse, Halt, Unended}
 
--- the name and the bytes of what is to be written
+-- the name of what is to be written
 abbrev pub output_name : Option Output → Option (List ℕ)
 output_name output = option_map (λ o. o.name.now) output
 
+-- its bytes
 abbrev pub output_bytes : Option Output → Option (List ℕ)
 output_bytes output = option_map (λ o. o.bytes.items) output
 

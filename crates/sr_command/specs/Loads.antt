@@ -8,13 +8,15 @@ use Rattle.elf_file.specs.declared.error.ElfError.TheVariants as elf
 use Rattle.sr_command.specs.declared.refusal.Refusal.{Refusal}
 use Rattle.sr_command.specs.declared.refusal.Refusal.TheVariants.{TooLong, NotElf, WrongKind, BadSegment, Overlap, TooLarge}
 
--- the most bytes that a text, an executable and an input may have
+-- the most bytes that a text may have
 abbrev pub most_text : ℕ
 most_text = 4194304
 
+-- the most bytes that an executable may have
 abbrev pub most_program : ℕ
 most_program = 268435456
 
+-- the most bytes that an input may have
 abbrev pub most_input : ℕ
 most_input = 16777216
 

@@ -60,7 +60,9 @@ pub fn compile<'a, S: Store>(
     store: &mut S,
 ) -> Result<Job<'a>, Status>
     ensures read { IsOnlyRead (S.meaning store.old) (S.meaning store.new) }
-    ensures job { MatchResult result (IsJobOf (compile_form input.now output.now) (S.meaning store.old).files) (StopsEarly (compile_form input.now output.now) (S.meaning store.old) (S.meaning store.new)) }
+    ensures job { MatchResult result (IsJobOf (compile_form input.now output.now)
+        (S.meaning store.old).files) (StopsEarly (compile_form input.now output.now)
+        (S.meaning store.old) (S.meaning store.new)) }
 {
     match read_file(alloc, input, MOST_TEXT, store) {
         Err(status) => Err(status),

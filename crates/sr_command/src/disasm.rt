@@ -29,7 +29,8 @@ fn push_instruction(alloc: Global, text: &mut Vec<u8>, word: u32) -> Result<(), 
 
 /// Returns the address of a word and the word, with a blank after each.
 fn numbers_of(alloc: Global, address: u64, word: u32) -> Result<String, AllocError>
-    ensures { IfOk result (λ text. string_bytes text ≡ eight_digits address ++ (codes " " ++ (eight_digits word ++ codes " "))) }
+    ensures { IfOk result (λ text. string_bytes text ≡ eight_digits address
+        ++ (codes " " ++ (eight_digits word ++ codes " "))) }
 {
     format!(in alloc; "{address:08x} {word:08x} ")
 }
@@ -48,7 +49,8 @@ fn push_line(alloc: Global, text: &mut Vec<u8>, address: u64, word: u32) -> Resu
 /// Appends the lines of the whole words of these bytes, which stand at an address.
 fn push_words(alloc: Global, text: &mut Vec<u8>, base: u64, bytes: &[u8]) -> Result<(), AllocError>
     requires { base + length bytes.now ≤ 2 ^ 64 }
-    ensures { OnOk result (text.new.items ≡ text.old.items ++ word_lines base (words_of bytes.now)) }
+    ensures { OnOk result (text.new.items
+        ≡ text.old.items ++ word_lines base (words_of bytes.now)) }
 {
     let mut rest = bytes;
     while let [_, _, _, _, more @ ..] = rest {
@@ -84,7 +86,8 @@ fn disassembly(alloc: Global, image: &Image) -> Result<Vec<u8>, AllocError>
 /// Returns what `disasm EXE` has to do, once EXE is read.
 pub fn disasm<'a, S: Store>(alloc: Global, program: &str, store: &mut S) -> Result<Job<'a>, Status>
     ensures read { IsOnlyRead (S.meaning store.old) (S.meaning store.new) }
-    ensures job { MatchResult result (IsJobOf (disasm_form program.now) (S.meaning store.old).files) (StopsEarly (disasm_form program.now) (S.meaning store.old) (S.meaning store.new)) }
+    ensures job { MatchResult result (IsJobOf (disasm_form program.now) (S.meaning store.old).files)
+        (StopsEarly (disasm_form program.now) (S.meaning store.old) (S.meaning store.new)) }
 {
     match load(alloc, program, None, store)? {
         Loaded::Refused { why } => Ok(Job::Refuse { why }),

@@ -87,7 +87,10 @@ pub fn execute<'a, S: Store>(
 ) -> Result<Job<'a>, Status>
     requires { ForSome flip FlipFits }
     ensures read { IsOnlyRead (S.meaning store.old) (S.meaning store.new) }
-    ensures job { MatchResult result (IsJobOf (execute_form program.now (word_bytes input.entry) steps flip) (S.meaning store.old).files) (StopsEarly (execute_form program.now (word_bytes input.entry) steps flip) (S.meaning store.old) (S.meaning store.new)) }
+    ensures job { MatchResult result (IsJobOf (execute_form program.now
+        (word_bytes input.entry) steps flip) (S.meaning store.old).files)
+        (StopsEarly (execute_form program.now (word_bytes input.entry) steps flip)
+        (S.meaning store.old) (S.meaning store.new)) }
 {
     match load(alloc, program, input, store)? {
         Loaded::Refused { why } => Ok(Job::Refuse { why }),

@@ -16,7 +16,8 @@ fn is_written(number: i32, literal: &[u8]) -> bool
 /// Returns the number that is written in decimal: an optional `-`, and at most nine digits with no zero
 /// before them.
 fn number_of(literal: &[u8]) -> Option<i32>
-    ensures { MatchOption result ((number : ℤ) → Writes literal.now number → ⊥) (Writes literal.now) }
+    ensures { MatchOption result ((number : ℤ) → Writes literal.now number →
+        ⊥) (Writes literal.now) }
 {
     match std::str::from_utf8(literal) {
         Err(_) => None,
@@ -29,14 +30,18 @@ fn number_of(literal: &[u8]) -> Option<i32>
 
 /// Returns what stands between `define i32 @main() { ret i32 ` and the end of the text.
 fn body_of(text: &[u8]) -> Option<&[u8]>
-    ensures { MatchOption result ((body : List ℕ) → text.now ≢ codes "define i32 @main() { ret i32 " ++ body) (λ body. text.now ≡ codes "define i32 @main() { ret i32 " ++ body.now) }
+    ensures { MatchOption result ((body : List ℕ) →
+        text.now ≢ codes "define i32 @main() { ret i32 " ++ body)
+        (λ body. text.now ≡ codes "define i32 @main() { ret i32 " ++ body.now) }
 {
     text.strip_prefix(b"define i32 @main() { ret i32 ")
 }
 
 /// Returns the body before its ` }`, after which one line feed may stand.
 fn before_end(body: &[u8]) -> Option<&[u8]>
-    ensures { MatchOption result ((literal rest : List ℕ) → IsEnd rest → body.now ≢ literal ++ rest) (λ literal. (rest : List ℕ) × IsEnd rest × (body.now ≡ literal.now ++ rest)) }
+    ensures { MatchOption result ((literal rest : List ℕ) → IsEnd rest →
+        body.now ≢ literal ++ rest) (λ literal. (rest : List ℕ) × IsEnd rest
+        × (body.now ≡ literal.now ++ rest)) }
 {
     body.strip_suffix(b" }").or(body.strip_suffix(b" }\n"))
 }

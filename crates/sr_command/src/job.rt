@@ -4,7 +4,7 @@ ghost use Rattle.std.specs.Prelude.{◌≡◌, ◌⊎◌, [], IsOk, IsSome, OnOk
 ghost use Rattle.sr_base.specs.Bytes.{Takes, TakesPrefix};
 ghost use Rattle.sr_base.specs.Meanings.{StoreMeaning, SinkMeaning};
 ghost use Rattle.sr_command.specs.Words.{Form};
-ghost use Rattle.sr_command.specs.Answers.{Tells, IsWritten, KeepsOthers, IsCausedBy, LeavesFilesOf, PutsOutOf, DeliversOf, NotesOf};
+ghost use Rattle.sr_command.specs.Answers.{world, Tells, IsWritten, KeepsOthers, IsCausedBy, LeavesFilesOf, PutsOutOf, DeliversOf, NotesOf};
 ghost use Rattle.sr_command.specs.Jobs.{output_name, output_bytes, FailsBy, FailsInHandOut, IsMade};
 
 use crate::refusal::Refusal;
@@ -52,10 +52,14 @@ pub fn tell<N: Sink>(sink: &mut N, text: &[u8])
 
 /// Writes the output, if there is one.
 fn write_output<S: Store>(output: &Option<Output<'_>>, store: &mut S) -> Result<(), Status>
-    ensures ok { OnOk result (IsWritten (output_name output.now) (S.meaning store.new).files (output_bytes output.now)) }
-    ensures err { IfErr result (FailsBy (S.meaning store.old).write_faults (S.meaning store.new).write_faults (S.meaning store.old).write_wants (S.meaning store.new).write_wants) }
+    ensures ok { OnOk result (IsWritten (output_name output.now) (S.meaning store.new).files
+        (output_bytes output.now)) }
+    ensures err { IfErr result (FailsBy (S.meaning store.old).write_faults
+        (S.meaning store.new).write_faults (S.meaning store.old).write_wants
+        (S.meaning store.new).write_wants) }
     ensures named { OnErr result (IsSome (output_name output.now)) }
-    ensures files { KeepsOthers (output_name output.now) (S.meaning store.old).files (S.meaning store.new).files }
+    ensures files { KeepsOthers (output_name output.now) (S.meaning store.old).files
+        (S.meaning store.new).files }
     ensures read_faults { (S.meaning store.new).read_faults ≡ (S.meaning store.old).read_faults }
 {
     match output {
@@ -74,7 +78,8 @@ fn write_output<S: Store>(output: &Option<Output<'_>>, store: &mut S) -> Result<
 fn put_text<O: Sink>(text: &[u8], out: &mut O) -> Result<(), Status>
     ensures ok { OnOk result (Takes (O.meaning out.old).taken (O.meaning out.new).taken text.now) }
     ensures prefix { TakesPrefix (O.meaning out.old).taken (O.meaning out.new).taken text.now }
-    ensures err { IfErr result (FailsBy (O.meaning out.old).faults (O.meaning out.new).faults (O.meaning out.old).wants (O.meaning out.new).wants) }
+    ensures err { IfErr result (FailsBy (O.meaning out.old).faults (O.meaning out.new).faults
+        (O.meaning out.old).wants (O.meaning out.new).wants) }
     ensures empty { text.now ≡ [] → IsOk result × (out.new ≡ out.old) }
 {
     match put_all(out, text) {
@@ -91,10 +96,15 @@ fn hand_out<S: Store, O: Sink>(
     store: &mut S,
     out: &mut O,
 ) -> Result<(), Status>
-    ensures ok { OnOk result (IsWritten (output_name output.now) (S.meaning store.new).files (output_bytes output.now) × Takes (O.meaning out.old).taken (O.meaning out.new).taken text.now) }
-    ensures err { IfErr result (FailsInHandOut output.now text.now (S.meaning store.old) (S.meaning store.new) (O.meaning out.old) (O.meaning out.new)) }
-    ensures files { KeepsOthers (output_name output.now) (S.meaning store.old).files (S.meaning store.new).files }
-    ensures prefix { (out.new ≡ out.old) ⊎ TakesPrefix (O.meaning out.old).taken (O.meaning out.new).taken text.now }
+    ensures ok { OnOk result (IsWritten (output_name output.now) (S.meaning store.new).files
+        (output_bytes output.now) × Takes (O.meaning out.old).taken
+        (O.meaning out.new).taken text.now) }
+    ensures err { IfErr result (FailsInHandOut output.now text.now (S.meaning store.old)
+        (S.meaning store.new) (O.meaning out.old) (O.meaning out.new)) }
+    ensures files { KeepsOthers (output_name output.now) (S.meaning store.old).files
+        (S.meaning store.new).files }
+    ensures prefix { (out.new ≡ out.old) ⊎ TakesPrefix (O.meaning out.old).taken
+        (O.meaning out.new).taken text.now }
 {
     write_output(output, store)?;
     put_text(text, out)
@@ -109,11 +119,26 @@ pub fn finish<S: Store, O: Sink, N: Sink>(
     note: &mut N,
 ) -> Status
     // Whatever form the job was made for, and from whatever state of the store it was read.
-    ensures cause { (form : Form) (s : StoreMeaning) → IsMade form s (S.meaning store.old) made.entry → IsCausedBy form result s (S.meaning store.new) (O.meaning out.old) (O.meaning out.new) (N.meaning note.old) (N.meaning note.new) }
-    ensures files { (form : Form) (s : StoreMeaning) → IsMade form s (S.meaning store.old) made.entry → LeavesFilesOf form result s (S.meaning store.new) (O.meaning out.old) (O.meaning out.new) }
-    ensures out { (form : Form) (s : StoreMeaning) → IsMade form s (S.meaning store.old) made.entry → PutsOutOf form result s (O.meaning out.old) (O.meaning out.new) }
-    ensures delivers { (form : Form) (s : StoreMeaning) → IsMade form s (S.meaning store.old) made.entry → DeliversOf form result s (S.meaning store.new) (O.meaning out.old) (O.meaning out.new) }
-    ensures note { (form : Form) (s : StoreMeaning) → IsMade form s (S.meaning store.old) made.entry → NotesOf form result s (N.meaning note.old) (N.meaning note.new) }
+    ensures cause { (form : Form) (s : StoreMeaning) →
+        IsMade form s (S.meaning store.old) made.entry →
+        IsCausedBy form result (world s (O.meaning out.old) (N.meaning note.old))
+        (world (S.meaning store.new) (O.meaning out.new) (N.meaning note.new)) }
+    ensures files { (form : Form) (s : StoreMeaning) →
+        IsMade form s (S.meaning store.old) made.entry →
+        LeavesFilesOf form result (world s (O.meaning out.old) (N.meaning note.old))
+        (world (S.meaning store.new) (O.meaning out.new) (N.meaning note.new)) }
+    ensures out { (form : Form) (s : StoreMeaning) →
+        IsMade form s (S.meaning store.old) made.entry →
+        PutsOutOf form result (world s (O.meaning out.old) (N.meaning note.old))
+        (world (S.meaning store.new) (O.meaning out.new) (N.meaning note.new)) }
+    ensures delivers { (form : Form) (s : StoreMeaning) →
+        IsMade form s (S.meaning store.old) made.entry →
+        DeliversOf form result (world s (O.meaning out.old) (N.meaning note.old))
+        (world (S.meaning store.new) (O.meaning out.new) (N.meaning note.new)) }
+    ensures note { (form : Form) (s : StoreMeaning) →
+        IsMade form s (S.meaning store.old) made.entry →
+        NotesOf form result (world s (O.meaning out.old) (N.meaning note.old))
+        (world (S.meaning store.new) (O.meaning out.new) (N.meaning note.new)) }
 {
     match made {
         Err(status) => {

@@ -58,7 +58,8 @@ fn read_input<S: Store>(
     store: &mut S,
 ) -> Result<Option<Vec<u8>>, Status>
     ensures ok { IfOk result (IsInputAs (S.meaning store.old).files (word_bytes input.entry)) }
-    ensures err { IfErr result (StopsInput (S.meaning store.old) (S.meaning store.new) (word_bytes input.entry)) }
+    ensures err { IfErr result (StopsInput (S.meaning store.old) (S.meaning store.new)
+        (word_bytes input.entry)) }
     ensures read { IsOnlyRead (S.meaning store.old) (S.meaning store.new) }
 {
     match input {
@@ -92,7 +93,9 @@ pub fn load<S: Store>(
     store: &mut S,
 ) -> Result<Loaded, Status>
     ensures read { IsOnlyRead (S.meaning store.old) (S.meaning store.new) }
-    ensures loaded { MatchResult result (IsLoadedAs (S.meaning store.old).files program.now (word_bytes input.entry)) (StopsLoading (S.meaning store.old) (S.meaning store.new) program.now (word_bytes input.entry)) }
+    ensures loaded { MatchResult result (IsLoadedAs (S.meaning store.old).files program.now
+        (word_bytes input.entry)) (StopsLoading (S.meaning store.old)
+        (S.meaning store.new) program.now (word_bytes input.entry)) }
 {
     let Some(bytes) = read_file(alloc, program, MOST_PROGRAM, store)? else {
         return Ok(Loaded::Refused {

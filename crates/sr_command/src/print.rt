@@ -38,7 +38,8 @@ fn print_text<'a>(alloc: Global, text: &[u8]) -> Result<Job<'a>, Status>
 /// Returns what `print IN` has to do, once IN is read.
 pub fn print<'a, S: Store>(alloc: Global, input: &str, store: &mut S) -> Result<Job<'a>, Status>
     ensures read { IsOnlyRead (S.meaning store.old) (S.meaning store.new) }
-    ensures job { MatchResult result (IsJobOf (print_form input.now) (S.meaning store.old).files) (StopsEarly (print_form input.now) (S.meaning store.old) (S.meaning store.new)) }
+    ensures job { MatchResult result (IsJobOf (print_form input.now) (S.meaning store.old).files)
+        (StopsEarly (print_form input.now) (S.meaning store.old) (S.meaning store.new)) }
 {
     match read_file(alloc, input, MOST_TEXT, store) {
         Err(status) => Err(status),

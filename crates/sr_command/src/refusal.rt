@@ -80,8 +80,8 @@ pub fn text_refusal(alloc: Global, text: &[u8], error: SourceError) -> Result<Re
 
 /// Returns the line of a refusal for a word that is outside the language.
 fn outside_line(alloc: Global, at: usize, word: &[u8]) -> Result<Vec<u8>, AllocError>
-    ensures { IfOk result (λ line. line.items
-        ≡ codes "refused Outside at=" ++ (decimal at ++ (codes " word=" ++ (word.now ++ 10 ∷ [])))) }
+    ensures { IfOk result (λ line. line.items ≡ codes "refused Outside at=" ++
+        (decimal at ++ (codes " word=" ++ (word.now ++ 10 ∷ [])))) }
 {
     let place = format!(in alloc; "refused Outside at={at} word=")?;
     let mut line = place.into_bytes();

@@ -7,7 +7,7 @@ ghost use Rattle.sr_command.specs.Words.{form_of};
 ghost use Rattle.sr_command.specs.Commands.{meant, HasGoodFlip};
 ghost use Rattle.sr_command.specs.Jobs.{IsJobOf, StopsEarly, IsOnlyRead};
 ghost use Rattle.sr_command.specs.Statuses.{status_of};
-ghost use Rattle.sr_command.specs.Answers.{IsCaused, LeavesFiles, PutsOut, Notes, IsComplete, DeliversStill, IsCausedBy, LeavesFilesOf, PutsOutOf, DeliversOf, NotesOf};
+ghost use Rattle.sr_command.specs.Answers.{IsAnswer, world};
 
 use crate::compile::compile;
 use crate::disasm::disasm;
@@ -27,7 +27,8 @@ fn make_job<'a, S: Store>(
 ) -> Result<Job<'a>, Status>
     requires { HasGoodFlip command }
     ensures read { IsOnlyRead (S.meaning store.old) (S.meaning store.new) }
-    ensures job { MatchResult result (IsJobOf (meant command.entry) (S.meaning store.old).files) (StopsEarly (meant command.entry) (S.meaning store.old) (S.meaning store.new)) }
+    ensures job { MatchResult result (IsJobOf (meant command.entry) (S.meaning store.old).files)
+        (StopsEarly (meant command.entry) (S.meaning store.old) (S.meaning store.new)) }
 {
     match command {
         Command::Compile { input, output } => compile(alloc, input, output, store),
@@ -51,12 +52,9 @@ fn run_command<S: Store, O: Sink, N: Sink>(
     note: &mut N,
 ) -> Status
     requires { HasGoodFlip command }
-    ensures cause { IsCausedBy (meant command.entry) result (S.meaning store.old) (S.meaning store.new) (O.meaning out.old) (O.meaning out.new) (N.meaning note.old) (N.meaning note.new) }
-    ensures files { LeavesFilesOf (meant command.entry) result (S.meaning store.old) (S.meaning store.new) (O.meaning out.old) (O.meaning out.new) }
-    ensures out { PutsOutOf (meant command.entry) result (S.meaning store.old) (O.meaning out.old) (O.meaning out.new) }
-    ensures delivers { DeliversOf (meant command.entry) result (S.meaning store.old) (S.meaning store.new) (O.meaning out.old) (O.meaning out.new) }
-    ensures note { NotesOf (meant command.entry) result (S.meaning store.old) (N.meaning note.old) (N.meaning note.new) }
-    ensures complete { IsComplete (Some (meant command.entry)) result (S.meaning store.old) (S.meaning store.new) (O.meaning out.old) (O.meaning out.new) (N.meaning note.old) (N.meaning note.new) }
+    ensures answer { IsAnswer (Some (meant command.entry)) result
+        (world (S.meaning store.old) (O.meaning out.old) (N.meaning note.old))
+        (world (S.meaning store.new) (O.meaning out.new) (N.meaning note.new)) }
 {
     let made = make_job(alloc, command, store);
     finish(alloc, made, store, out, note)
@@ -70,12 +68,9 @@ fn run<S: Store, O: Sink, N: Sink>(
     out: &mut O,
     note: &mut N,
 ) -> Status
-    ensures cause { IsCaused (form_of (map string_bytes words.now)) result (S.meaning store.old) (S.meaning store.new) (O.meaning out.old) (O.meaning out.new) (N.meaning note.old) (N.meaning note.new) }
-    ensures files { LeavesFiles (form_of (map string_bytes words.now)) result (S.meaning store.old) (S.meaning store.new) (O.meaning out.old) (O.meaning out.new) }
-    ensures out { PutsOut (form_of (map string_bytes words.now)) result (S.meaning store.old) (O.meaning out.old) (O.meaning out.new) }
-    ensures delivers { DeliversStill (form_of (map string_bytes words.now)) result (S.meaning store.old) (S.meaning store.new) (O.meaning out.old) (O.meaning out.new) }
-    ensures note { Notes (form_of (map string_bytes words.now)) result (S.meaning store.old) (N.meaning note.old) (N.meaning note.new) }
-    ensures complete { IsComplete (form_of (map string_bytes words.now)) result (S.meaning store.old) (S.meaning store.new) (O.meaning out.old) (O.meaning out.new) (N.meaning note.old) (N.meaning note.new) }
+    ensures answer { IsAnswer (form_of (map string_bytes words.now)) result
+        (world (S.meaning store.old) (O.meaning out.old) (N.meaning note.old))
+        (world (S.meaning store.new) (O.meaning out.new) (N.meaning note.new)) }
 {
     match parse_words(words) {
         None => {
@@ -111,22 +106,18 @@ pub fn swiftr<S: Store, O: Sink, N: Sink>(
 ) -> u8
     ensures known { result ≤ 8 }
 
-    // Why each status comes. The causes shut one another out, so each comes exactly where its cause holds.
-    ensures cause { IsCaused (form_of (map string_bytes words.now)) (status_of result) (S.meaning store.old) (S.meaning store.new) (O.meaning out.old) (O.meaning out.new) (N.meaning note.old) (N.meaning note.new) }
-
-    // What becomes of the files, of `out` and of `note`.
-    ensures files { LeavesFiles (form_of (map string_bytes words.now)) (status_of result) (S.meaning store.old) (S.meaning store.new) (O.meaning out.old) (O.meaning out.new) }
-    ensures out { PutsOut (form_of (map string_bytes words.now)) (status_of result) (S.meaning store.old) (O.meaning out.old) (O.meaning out.new) }
-    ensures delivers { DeliversStill (form_of (map string_bytes words.now)) (status_of result) (S.meaning store.old) (S.meaning store.new) (O.meaning out.old) (O.meaning out.new) }
-    ensures note { Notes (form_of (map string_bytes words.now)) (status_of result) (S.meaning store.old) (N.meaning note.old) (N.meaning note.new) }
-
-    // Words of a form, files that are there and accepted, and no fault: all is done, or memory is wanting.
-    ensures complete { IsComplete (form_of (map string_bytes words.now)) (status_of result) (S.meaning store.old) (S.meaning store.new) (O.meaning out.old) (O.meaning out.new) (N.meaning note.old) (N.meaning note.new) }
+    ensures answer { IsAnswer (form_of (map string_bytes words.now)) (status_of result)
+        (world (S.meaning store.old) (O.meaning out.old) (N.meaning note.old))
+        (world (S.meaning store.new) (O.meaning out.new) (N.meaning note.new)) }
 
     // The same by numbers, for the statuses that need no more to be said.
     ensures usage { (result ≡ 1) ↔ (form_of (map string_bytes words.now) ≡ None) }
-    ensures read_fault { result ≡ 5 → Rose (S.meaning store.old).read_faults (S.meaning store.new).read_faults }
-    ensures write_fault { result ≡ 6 → Rose (S.meaning store.old).write_faults (S.meaning store.new).write_faults ⊎ Rose (O.meaning out.old).faults (O.meaning out.new).faults ⊎ Rose (N.meaning note.old).faults (N.meaning note.new).faults }
+    ensures read_fault { result ≡ 5 →
+        Rose (S.meaning store.old).read_faults (S.meaning store.new).read_faults }
+    ensures write_fault { result ≡ 6 →
+        Rose (S.meaning store.old).write_faults (S.meaning store.new).write_faults
+        ⊎ Rose (O.meaning out.old).faults (O.meaning out.new).faults
+        ⊎ Rose (N.meaning note.old).faults (N.meaning note.new).faults }
 {
     run(alloc, words, store, out, note).code()
 }

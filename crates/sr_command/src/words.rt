@@ -108,7 +108,8 @@ fn parse_execution<'a>(
     flip: Option<Flip>,
 ) -> Option<Command<'a>>
     requires { ForSome flip FlipFits }
-    ensures meant { option_map meant result ≡ execution program.now input.now (number_of steps.now) flip }
+    ensures meant { option_map meant result ≡ execution program.now input.now
+        (number_of steps.now) flip }
     ensures fits { IfSome result HasGoodFlip }
 {
     match number_of(steps) {
@@ -158,7 +159,8 @@ fn parse_four<'a>(
     input: &'a str,
     steps: &str,
 ) -> Option<Command<'a>>
-    ensures meant { option_map meant result ≡ four_words command.now program.now input.now steps.now }
+    ensures meant { option_map meant result
+        ≡ four_words command.now program.now input.now steps.now }
     ensures fits { IfSome result HasGoodFlip }
 {
     if command == "run" {
@@ -177,7 +179,8 @@ fn parse_seven<'a>(
     flip: Option<Flip>,
 ) -> Option<Command<'a>>
     requires { ForSome flip FlipFits }
-    ensures meant { option_map meant result ≡ seven_words command.now program.now input.now steps.now flip }
+    ensures meant { option_map meant result ≡ seven_words command.now program.now input.now
+        steps.now flip }
     ensures fits { IfSome result HasGoodFlip }
 {
     if command == "flip" && flip.is_some() {

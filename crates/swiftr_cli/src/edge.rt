@@ -21,6 +21,7 @@ pub struct DirStore<'a, R> {
 }
 
 impl<'a, R> DirStore<'a, R> {
+    /// Returns the files of the system, with no fault counted yet.
     pub fn new(rt: &'a R) -> Self {
         DirStore {
             rt,
@@ -114,6 +115,7 @@ pub struct StdSink<'a, R> {
 }
 
 impl<'a, R> StdSink<'a, R> {
+    /// Returns standard output, with no fault counted yet.
     pub fn new(rt: &'a R) -> Self {
         StdSink { rt, faults: 0 }
     }
