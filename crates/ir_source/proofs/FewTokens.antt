@@ -2,7 +2,7 @@
 use Rattle.std.proofs.Common.{ℕ, zero, suc, ◌+◌, ◌-◌, ◌≤◌, Bool, true, false, if◌then◌else◌, List, [], ◌∷◌, length, Option, arith}
 use Rattle.std.specs.Prelude.{is_some, unwrap_or}
 use Rattle.ir_lex.specs.Tokens.{AreTokens, LieFrom}
-use Rattle.ir_lex.specs.Quiet.{left_behind, phrase_len, without, kept_of}
+use Rattle.ir_lex.specs.Quiet.{left_after, phrase_len, without, kept_of}
 use Rattle.ir_lex.specs.declared.token.Token.{Token}
 use Rattle.ir_lex.specs.declared.phrases.Rule.{Rule}
 use Rattle.ir_lex.specs.declared.phrases.Rule.TheVariants.{HeaderLines, NoteLines, MetaPairs, Alignments, Hashes, Groups, QuietWords}
@@ -12,13 +12,13 @@ few_either : (b : Bool) (xs ys : List Token) (n : ℕ) → length xs ≤ n → l
 few_either true xs ys n h k = h
 few_either false xs ys n h k = k
 
-left_few : (phrase : List Token → Option ℕ) (skip : ℕ) (toks : List Token) → length (left_behind phrase skip toks) ≤ length toks
-unfolding left_behind
+left_few : (phrase : List Token → Option ℕ) (skip : ℕ) (toks : List Token) → length (left_after phrase skip toks) ≤ length toks
+unfolding left_after
 left_few phrase skip [] = omega arith
 left_few phrase zero (t ∷ toks) =
     let skipped = left_few phrase (unwrap_or (phrase (t ∷ toks)) 1 - 1) toks in
     let kept = left_few phrase 0 toks in
-    few_either (is_some (phrase (t ∷ toks))) (left_behind phrase (unwrap_or (phrase (t ∷ toks)) 1 - 1) toks) (t ∷ left_behind phrase 0 toks) (length (t ∷ toks)) (omega (arith, skipped)) (omega (arith, kept))
+    few_either (is_some (phrase (t ∷ toks))) (left_after phrase (unwrap_or (phrase (t ∷ toks)) 1 - 1) toks) (t ∷ left_after phrase 0 toks) (length (t ∷ toks)) (omega (arith, skipped)) (omega (arith, kept))
 left_few phrase (suc skip) (t ∷ toks) = let less = left_few phrase skip toks in omega (arith, less)
 
 without_few : (text : List ℕ) (rule : Rule) (toks : List Token) (n : ℕ) → length toks ≤ n → length (without text rule toks) ≤ n

@@ -1,9 +1,10 @@
 -- A text has at most one module, and is refused for at most one reason.
-use Rattle.std.proofs.Common.{◌≡◌, ℕ, ◌+◌, ◌<◌, ◌≤◌, min, List, [], ◌∷◌, ◌++◌, length, take, drop, ◌⊎◌, inl, inr, refl, ap, sym, ◌∙◌, subst, arith, Option, Some, None, append_assoc}
+use Rattle.std.proofs.Common.{◌≡◌, ℕ, ◌+◌, ◌<◌, List, [], ◌∷◌, ◌++◌, length, take, drop, ◌⊎◌, inl, inr, refl, ap, sym, ◌∙◌, subst, arith, Option, Some, None, append_assoc}
+use Rattle.std.specs.Prelude.{unwrap_or}
 use Rattle.std.proofs.lemmas.List.{take-append-drop, length-take, length-drop, length-map}
 use Rattle.grammar.specs.Language.{Lang}
 use Rattle.grammar.specs.FirstWrong.{FirstWrong}
-use Rattle.ir_lex.specs.Tokens.{AreTokens, IsBad}
+use Rattle.ir_lex.specs.Tokens.{IsBad}
 use Rattle.ir_lex.specs.Quiet.{kept_of, first_outside}
 use Rattle.ir_lex.specs.Symbols.{Symbol, symbol_of, symbols_of}
 use Rattle.ir_lex.specs.declared.token.Token.{Token}
@@ -109,7 +110,9 @@ kept_not_bad : (text : List ℕ) (kept : List Token) (at : ℕ) → AreKept text
 kept_not_bad text kept at are bad = tokens_or_bad text are.toks at are.are_tokens bad
 
 some_pair : (a b c d : ℕ) → ◌≡◌ {A = Option (ℕ × ℕ)} (Some (a, b)) (Some (c, d)) → (a ≡ c) × (b ≡ d)
-some_pair a b c d e = (cc, cc)
+some_pair a b c d e =
+    let pair : ◌≡◌ {A = ℕ × ℕ} (a, b) (c, d) = ap (λ (o : Option (ℕ × ℕ)). unwrap_or o (a, b)) e in
+    (ap (λ (p : ℕ × ℕ). p.0) pair, ap (λ (p : ℕ × ℕ). p.1) pair)
 
 one_outside : (text : List ℕ) (at len place size : ℕ) → IsOutside text at len → IsOutside text place size → Outside at len ≡ Outside place size
 one_outside text at len place size (toks, are, first) (others, also, second) =

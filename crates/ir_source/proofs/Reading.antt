@@ -1,5 +1,5 @@
 -- From the tokens that are kept of a text to its module, or to why it is refused.
-use Rattle.std.proofs.Common.{◌≡◌, ℕ, ◌≤◌, List, length, ap, sym, subst, arith, Result, Ok, Err, Vec, IfOk}
+use Rattle.std.proofs.Common.{◌≡◌, ℕ, ◌≤◌, List, length, ap, arith, Result, Ok, Err, Vec, IfOk}
 use Rattle.std.specs.declared.alloc.Global.{Global}
 use Rattle.ir_lex.specs.Tokens.{AreTokens}
 use Rattle.ir_lex.specs.Quiet.{kept_of}

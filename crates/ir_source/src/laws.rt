@@ -1,6 +1,6 @@
 //! The laws of texts and their modules.
 
-ghost use Rattle.std.specs.Prelude.{◌≡◌, List, ℕ, ⊥};
+ghost use Rattle.std.specs.Prelude.{◌≡◌, List, ℕ};
 ghost use Rattle.ir_tree.specs.Shape.{ModuleShape};
 ghost use Rattle.ir_source.specs.Texts.{IsModuleOf, IsRefused};
 ghost use Rattle.ir_source.specs.declared.error.SourceError.{SourceError};
