@@ -1,5 +1,5 @@
 -- From what was made of a text to the job of the form.
-use Rattle.std.proofs.Common.{◌≡◌, ◌≤◌, ◌<◌, arith, subst, w32, to_z, of_z, ℕ, ℤ, pos, negsuc, List, [], length, codes, inl, inr, refl, ap, sym, ◌∙◌, Some, None, Result, Ok, Err, IfOk, IfErr, MatchResult}
+use Rattle.std.proofs.Common.{◌≡◌, ◌≤◌, ◌<◌, arith, subst, w32, to_z, of_z, ℕ, ℤ, pos, negsuc, List, [], length, ap, sym, ◌∙◌, Some, Result, Ok, Err, IfOk, IfErr, MatchResult}
 use Rattle.sr_base.specs.Meanings.{StoreMeaning}
 use Rattle.sr_command.specs.Words.{compile}
 use Rattle.sr_command.specs.FirstForm.{Returns, exit_status}
@@ -10,8 +10,13 @@ use Rattle.sr_command.specs.Hardened.{IsHardened}
 use Rattle.sr_command.proofs.Literals.{nine_digits_fit}
 use Rattle.sr_command.proofs.ExitSurvives.{exit_is_hardened}
 use Rattle.std.proofs.lemmas.Int.{to_z-of_z}
-use Rattle.sr_command.specs.Loads.{most_text}
+use Rattle.sr_command.specs.Loads.{most_text, HasFile}
 use Rattle.sr_command.specs.Gives.{GivesExecutable}
+use Rattle.sr_command.specs.Jobs.{IsBuilt, IsJobOf, StopsEarly}
+use Rattle.sr_command.specs.declared.status.Status.{Status}
+use Rattle.sr_command.specs.declared.status.Status.TheVariants.{NoMemory}
+use Rattle.sr_command.specs.declared.job.Job.{Job}
+use Rattle.sr_command.specs.declared.job.Job.TheVariants.{Whole, Refuse}
 
 status_small : (z : ℤ) → exit_status z < 256
 status_small (pos n) = omega arith
@@ -32,3 +37,10 @@ gives_executable text number bytes points line short returns is_executable are_p
 -- a number that a text returns passes unchanged as 32 bits
 pub returned_kept : (text : List ℕ) (number : ℤ) → Returns text number → to_z w32 (of_z w32 number) ≡ number
 returned_kept text number returns = to_z-of_z w32 number (nine_digits_fit number returns.1.0)
+
+-- the job of a text that was read is that of the form
+pub compile_job : (r : Result Job Status) (s s' : StoreMeaning) (input output text : List ℕ) → HasFile s.files input most_text text → IfOk r (IsBuilt text output) → IfErr r (λ status. status ≡ NoMemory) → MatchResult r (IsJobOf (compile input output) s.files) (StopsEarly (compile input output) s s')
+compile_job (Ok (Whole whole out line)) s s' input output text has h e = (h.0, (text, has.0, h.1))
+compile_job (Ok (Refuse why)) s s' input output text has refuses e = (text, has.0, refuses)
+compile_job (Ok other) s s' input output text has h e = absurd h
+compile_job (Err status) s s' input output text has h e = rw e tt

@@ -1,10 +1,15 @@
 -- An executable and an input that are told to be there are those that are read.
-use Rattle.std.proofs.Common.{◌≡◌, ◌<◌, ℕ, List, inl, inr, sym, ◌∙◌, ap, arith, Option, Some, None, Result, Ok, Err, IsSome, length}
+use Rattle.std.proofs.Common.{◌≡◌, ◌<◌, ℕ, List, inl, inr, sym, ◌∙◌, ap, arith, Option, Some, None, Result, Ok, Err, IsSome, IfOk, IfErr, MatchResult, length}
 use Rattle.sr_base.specs.Files.{Files, Holds}
 use Rattle.elf_file.specs.Image.{ProgramImage}
 use Rattle.elf_file.specs.Reading.{reading_of}
 use Rattle.elf_file.specs.declared.error.ElfError.{ElfError}
 use Rattle.elf_file.specs.declared.error.ElfError.TheVariants as elf
+use Rattle.sr_base.specs.Meanings.{StoreMeaning}
+use Rattle.sr_command.specs.Jobs.{IsLoadedAs, StopsLoading}
+use Rattle.sr_command.specs.declared.loading.Loaded.{Loaded}
+use Rattle.sr_command.specs.declared.status.Status.{Status}
+use Rattle.sr_command.specs.declared.status.Status.TheVariants.{NoMemory}
 use Rattle.sr_command.specs.declared.refusal.Refusal.{Refusal}
 use Rattle.sr_command.specs.declared.refusal.Refusal.TheVariants.{TooLong, NotElf, WrongKind, BadSegment, Overlap, TooLarge}
 use Rattle.sr_command.specs.Loads.{HasFile, HasInput, HasLongerInput, LacksInput, IsLoaded, IsNoExecutable, RefusesLoad, LacksLoad, most_program}
@@ -49,7 +54,7 @@ one_load files program input image image' content content' told l l' =
 load_not_broken : (files : Option Files) (program : List ℕ) (input : Option (List ℕ)) (image : ProgramImage) (content : List ℕ) (error : ElfError) → IsSome files → IsLoaded files program input image content → IsNoExecutable files program input error → ⊥
 load_not_broken files program input image content error told l (bytes, other, read, fails) =
     let same = one_file files program l.bytes bytes told l.read.0.0 read.0.0 in
-    let both : ◌≡◌ {A = Result ProgramImage ElfError} (Ok image) (Err error) = sym l.is_image ∙ ap reading_of same ∙ fails in
+    let both : ◌≡◌ {A = Result ProgramImage ElfError} (Ok image) (Err error) = sym l.is_image ∙ ap reading_of same ∙ sym fails in
     cc (both)
 
 -- it isn't refused, and is there
@@ -66,3 +71,8 @@ load_not_refused files program other input image content told l h = absurd h
 pub load_there : (files : Option Files) (program : List ℕ) (input : Option (List ℕ)) (image : ProgramImage) (content : List ℕ) → IsSome files → IsLoaded files program input image content → LacksLoad files program input → ⊥
 load_there files program input image content told l (inl lacks) = not_absent files program l.bytes told l.read.0.0 lacks
 load_there files program input image content told l (inr (has, lacks)) = input_there files input content told l.read.1 lacks
+
+-- what is no executable is refused, or memory ran out
+pub load_stops : (r : Result Loaded Status) (s s' : StoreMeaning) (program : List ℕ) (input : Option (List ℕ)) → IfOk r (IsLoadedAs s.files program input) → IfErr r (λ status. status ≡ NoMemory) → MatchResult r (IsLoadedAs s.files program input) (StopsLoading s s' program input)
+load_stops (Ok loaded) s s' program input h e = h
+load_stops (Err status) s s' program input h e = rw e tt

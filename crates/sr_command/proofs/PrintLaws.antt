@@ -45,7 +45,7 @@ print_job (Err status) s s' input text has h e = rw e tt
 pub printed_not_refused : (text : List ℕ) (why : Refusal) (m : ModuleShape) → HasModule text m → RefusesPrint text why → ⊥
 printed_not_refused text (TooLong most) m printable h = omega (arith, printable.0, h.1)
 printed_not_refused text (Bad at) m printable h = not_refused text m (source.Bad at) printable.1 h.1
-printed_not_refused text (Outside at word) m printable (short, len, refused, is) = not_refused text m (source.Outside at len) printable.1 refused
+printed_not_refused text (Outside at word) m printable (short, (len, refused, is)) = not_refused text m (source.Outside at len) printable.1 refused
 printed_not_refused text (Deep at) m printable h = not_refused text m (source.Deep at) printable.1 h.1
 printed_not_refused text (Syntax at) m printable h = not_refused text m (source.Syntax at) printable.1 h.1
 printed_not_refused text other m printable h = absurd h.1

@@ -1,5 +1,5 @@
 -- What each form of words gives, by the files that the store tells, and why it gives nothing.
-use Rattle.std.specs.Prelude.{◌≡◌, ◌⊎◌, ◌<◌, ◌≤◌, ℕ, ℤ, List, [], length, codes, Option, Some, None, IsSome}
+use Rattle.std.specs.Prelude.{◌≡◌, ◌<◌, ◌≤◌, ℕ, ℤ, List, [], length, Option, Some, None, IsSome}
 use Rattle.sr_base.specs.Files.{Files, held, Holds}
 use Rattle.point_list.specs.Points.{points_text}
 use Rattle.point_list.specs.declared.list.Point.{Point}

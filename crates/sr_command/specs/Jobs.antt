@@ -1,15 +1,18 @@
 -- What is left to do once the files are read and all texts are made.
-use Rattle.std.specs.Prelude.{◌≡◌, ◌⊎◌, ℕ, ◌≤◌, List, Option, Some, None, Vec, Result, MatchResult, IsSome}
+use Rattle.std.specs.Prelude.{◌≡◌, ◌⊎◌, ℕ, ◌≤◌, List, Option, Some, None, Vec, Result, Err, MatchResult, IsSome}
 use Rattle.std.specs.Option.{option_map}
 use Rattle.std.specs.declared.alloc.Global.{Global}
 use Rattle.sr_base.specs.Counts.{Rose}
 use Rattle.sr_base.specs.Bytes.{TakesPrefix}
 use Rattle.sr_base.specs.Files.{Files, Holds}
 use Rattle.sr_base.specs.Meanings.{StoreMeaning, SinkMeaning}
+use Rattle.elf_file.specs.Image.{ProgramImage}
+use Rattle.elf_file.specs.Reading.{reading_of, IsAnswer}
+use Rattle.elf_file.specs.declared.error.ElfError.{ElfError}
 use Rattle.sr_command.specs.Words.{Form}
 use Rattle.sr_command.specs.Statuses.{line_of}
 use Rattle.sr_command.specs.Answers.{IsWritten}
-use Rattle.sr_command.specs.Loads.{HasFile, HasLonger, HasInput, HasLongerInput, LacksInput, IsLoaded, RefusesLoad, LacksLoad}
+use Rattle.sr_command.specs.Loads.{HasBoth, HasFile, HasLonger, HasInput, HasLongerInput, LacksInput, IsLoaded, RefusesLoad, LacksLoad}
 use Rattle.sr_command.specs.Runs.{IsAnswered}
 use Rattle.sr_command.specs.declared.loading.Loaded.{Loaded}
 use Rattle.sr_command.specs.declared.loading.Loaded.TheVariants.{Program, Refused}
@@ -117,6 +120,11 @@ StopsInput s s' input status = ⊥
 abbrev pub IsLoadedAs : Option Files → List ℕ → Option (List ℕ) → Loaded → Type 0
 IsLoadedAs files program input (Program image content) = IsLoaded files program input image content.items
 IsLoadedAs files program input (Refused why) = RefusesLoad files program input why
+
+-- the files are there and within their limits, and reading the program's ended with this error
+abbrev pub FailsToLoad : Option Files → List ℕ → Option (List ℕ) → ElfError → Type 0
+FailsToLoad files program input error =
+    (bytes content : List ℕ) × HasBoth files program input bytes content × IsAnswer {X = ProgramImage} (Err error) (reading_of bytes)
 
 -- why they were not read
 abbrev pub StopsLoading : StoreMeaning → StoreMeaning → List ℕ → Option (List ℕ) → Status → Type 0

@@ -59,7 +59,7 @@ pub record IsLoaded (files : Option Files) (program : List ℕ) (input : Option 
 
 -- the files are there and within their limits, and the program's is no executable, for this reason
 abbrev pub IsNoExecutable : Option Files → List ℕ → Option (List ℕ) → ElfError → Type 0
-IsNoExecutable files program input error = (bytes content : List ℕ) × HasBoth files program input bytes content × (reading_of bytes ≡ Err error)
+IsNoExecutable files program input error = (bytes content : List ℕ) × HasBoth files program input bytes content × (Err error ≡ reading_of bytes)
 
 -- why they are refused: the program's file is too long; or it is not, and the input's is; or neither is, and the program's is no executable
 abbrev pub RefusesLoad : Option Files → List ℕ → Option (List ℕ) → Refusal → Type 0

@@ -4,8 +4,7 @@ ghost use Rattle.std.specs.Prelude.{◌≡◌, ℕ, List, Option, IfOk, IfErr, M
 ghost use Rattle.sr_base.specs.Meanings.{StoreMeaning};
 ghost use Rattle.sr_command.specs.Commands.{word_bytes};
 ghost use Rattle.sr_base.specs.Files.{Files};
-ghost use Rattle.sr_command.specs.Loads.{IsNoExecutable};
-ghost use Rattle.sr_command.specs.Jobs.{IsOnlyRead, IsReadWithin, StopsReading, IsInputAs, StopsInput, IsLoadedAs, StopsLoading};
+ghost use Rattle.sr_command.specs.Jobs.{FailsToLoad, IsOnlyRead, IsReadWithin, StopsReading, IsInputAs, StopsInput, IsLoadedAs, StopsLoading};
 
 use crate::refusal::Refusal;
 use crate::status::Status;
@@ -71,7 +70,7 @@ fn read_input<S: Store>(
 /// Returns what a file is that is no executable; `NoMemory` where memory ran out.
 fn no_executable(error: ElfError) -> Result<Loaded, Status>
     ensures ok { (files : Option Files) (program : List ℕ) (input : Option (List ℕ)) →
-        IsNoExecutable files program input error → IfOk result (IsLoadedAs files program input) }
+        FailsToLoad files program input error → IfOk result (IsLoadedAs files program input) }
     ensures err { IfErr result (λ status. status ≡ Status.NoMemory) }
 {
     let why = match error {
