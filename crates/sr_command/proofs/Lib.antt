@@ -1,5 +1,8 @@
 mod Literals
-mod JobLaws
+mod Sound
+mod CompileLaws
+mod DisasmLaws
+mod ExecuteLaws
 mod LoadLaws
 mod Hexadecimals
 mod Numbers

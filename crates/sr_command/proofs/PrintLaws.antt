@@ -1,19 +1,19 @@
 -- From the module of a text to the job of the form, and that such a text isn't refused.
-use Rattle.std.proofs.Common.{◌≡◌, ℕ, ◌≤◌, List, [], length, ap, ◌∙◌, arith, None, Result, Ok, Err, IfOk, IfErr, MatchResult}
+use Rattle.std.proofs.Common.{◌≡◌, ℕ, ◌≤◌, List, [], length, ap, ◌∙◌, subst, arith, None, Result, Ok, Err, IfOk, IfErr, MatchResult}
 use Rattle.sr_base.specs.Meanings.{StoreMeaning}
 use Rattle.ir_print.specs.Printed.{module_text}
 use Rattle.ir_tree.specs.Shape.{ModuleShape}
 use Rattle.ir_source.specs.Texts.{IsModuleOf}
 use Rattle.ir_source.specs.declared.error.SourceError.TheVariants as source
 use Rattle.ir_source.proofs.OneWay.{not_refused}
-use Rattle.sr_command.specs.Words.{print}
 use Rattle.sr_command.specs.Loads.{most_text, HasFile}
-use Rattle.sr_command.specs.Prints.{RefusesShort, RefusesPrint, HasModule, GivesPrinted}
+use Rattle.sr_command.specs.Forms.Print.{RefusesShort, RefusesPrint, HasModule, GivesPrinted, printing}
 use Rattle.sr_command.specs.Jobs.{IsPrinted, IsJobOf, StopsEarly}
 use Rattle.sr_command.specs.declared.refusal.Refusal.{Refusal}
 use Rattle.sr_command.specs.declared.refusal.Refusal.TheVariants.{TooLong, Bad, Outside, Deep, Syntax}
 use Rattle.sr_command.specs.declared.status.Status.{Status}
 use Rattle.sr_command.specs.declared.status.Status.TheVariants.{NoMemory}
+use Rattle.sr_command.proofs.Sound.{IsSound, same_file, not_absent}
 use Rattle.sr_command.specs.declared.job.Job.{Job}
 use Rattle.sr_command.specs.declared.job.Job.TheVariants.{Whole, Refuse}
 
@@ -35,17 +35,27 @@ refused_short text (Syntax at) short h = (short, h)
 refused_short text other short h = absurd h
 
 -- the job of a text that was read is that of the form
-pub print_job : (r : Result Job Status) (s s' : StoreMeaning) (input text : List ℕ) → HasFile s.files input most_text text → IfOk r (IsPrinted text) → IfErr r (λ status. status ≡ NoMemory) → MatchResult r (IsJobOf (print input) s.files) (StopsEarly (print input) s s')
+pub print_job : (r : Result Job Status) (s s' : StoreMeaning) (input text : List ℕ) → HasFile s.files input most_text text → IfOk r (IsPrinted text) → IfErr r (λ status. status ≡ NoMemory) → MatchResult r (IsJobOf (printing input) s.files) (StopsEarly (printing input) s s')
 print_job (Ok (Whole output out line)) s s' input text has h e = (h.0, (text, has.0, h.1))
 print_job (Ok (Refuse why)) s s' input text has refuses e = (text, has.0, refused_short text why has.1 refuses)
 print_job (Ok other) s s' input text has h e = absurd h
 print_job (Err status) s s' input text has h e = rw e tt
 
 -- a text that has a module isn't refused
-pub printed_not_refused : (text : List ℕ) (why : Refusal) (m : ModuleShape) → HasModule text m → RefusesPrint text why → ⊥
+printed_not_refused : (text : List ℕ) (why : Refusal) (m : ModuleShape) → HasModule text m → RefusesPrint text why → ⊥
 printed_not_refused text (TooLong most) m printable h = omega (arith, printable.0, h.1)
 printed_not_refused text (Bad at) m printable h = not_refused text m (source.Bad at) printable.1 h.1
 printed_not_refused text (Outside at word) m printable (short, (len, refused, is)) = not_refused text m (source.Outside at len) printable.1 refused
 printed_not_refused text (Deep at) m printable h = not_refused text m (source.Deep at) printable.1 h.1
 printed_not_refused text (Syntax at) m printable h = not_refused text m (source.Syntax at) printable.1 h.1
 printed_not_refused text other m printable h = absurd h.1
+
+-- what can be printed is
+pub print_sound : (input : List ℕ) → IsSound (printing input)
+print_sound input = record {
+  not_refused = λ files why (there, m, held_there, printable) (text, holds, refuses).
+      printed_not_refused text why m (subst (λ (t : List ℕ). HasModule t m) (same_file files input there text held_there holds) printable) refuses;
+  not_lacking = λ files (there, m, held_there, printable) lacks. not_absent files input there held_there lacks;
+  not_stopped = λ files given can halts. halts;
+  not_over = λ files given can halts. halts;
+}

@@ -9,16 +9,16 @@ use Rattle.sr_base.specs.Meanings.{StoreMeaning, SinkMeaning}
 use Rattle.elf_file.specs.Image.{ProgramImage}
 use Rattle.elf_file.specs.Reading.{reading_of, IsAnswer}
 use Rattle.elf_file.specs.declared.error.ElfError.{ElfError}
-use Rattle.sr_command.specs.Words.{Form}
+use Rattle.sr_command.specs.Promise.{Promise}
 use Rattle.sr_command.specs.Statuses.{line_of}
 use Rattle.sr_command.specs.Answers.{IsWritten}
 use Rattle.sr_command.specs.Loads.{HasBoth, HasFile, HasLonger, HasInput, HasLongerInput, LacksInput, IsLoaded, RefusesLoad, LacksLoad}
-use Rattle.sr_command.specs.Runs.{IsAnswered}
+use Rattle.sr_command.specs.Forms.Compile.{GivesExecutable, RefusesText}
+use Rattle.sr_command.specs.Forms.Execute.{IsAnswered}
+use Rattle.sr_command.specs.Forms.Print.{GivesPrinted, RefusesShort}
 use Rattle.sr_command.specs.declared.loading.Loaded.{Loaded}
 use Rattle.sr_command.specs.declared.loading.Loaded.TheVariants.{Program, Refused}
 use Rattle.rv_model.specs.Run.{RunResult}
-use Rattle.sr_command.specs.Gives.{Gives, Halts, GivesExecutable, Refuses, RefusesText, Lacks, output_of}
-use Rattle.sr_command.specs.Prints.{GivesPrinted, RefusesShort}
 use Rattle.sr_command.specs.declared.status.Status.{Status}
 use Rattle.sr_command.specs.declared.status.Status.TheVariants.{Done, Stopped, StepsOver, ReadFault, WriteFault, NoMemory, Absent}
 use Rattle.sr_command.specs.declared.job.Output.{Output}
@@ -33,20 +33,20 @@ output_name output = option_map (λ o. o.name.now) output
 abbrev pub output_bytes : Option Output → Option (List ℕ)
 output_bytes output = option_map (λ o. o.bytes.items) output
 
--- the job is that of the form: what it gives, or why it is refused
-abbrev pub IsJobOf : Form → Option Files → Job → Type 0
-IsJobOf form files (Whole output text line) =
-    (output_name output ≡ output_of form) × Gives form files (record { image = output_bytes output; text = text.items; line = line.items })
-IsJobOf form files (Refuse why) = Refuses form files why
-IsJobOf form files (Halt text line) = Halts form files Stopped (record { image = None; text = text.items; line = line.items })
-IsJobOf form files (Unended text) = Halts form files StepsOver (record { image = None; text = text.items; line = line_of StepsOver })
+-- the job is that of a form with this promise: what it gives, or why it is refused
+abbrev pub IsJobOf : Promise → Option Files → Job → Type 0
+IsJobOf p files (Whole output text line) =
+    (output_name output ≡ p.output) × p.gives files (record { image = output_bytes output; text = text.items; line = line.items })
+IsJobOf p files (Refuse why) = p.refuses files why
+IsJobOf p files (Halt text line) = p.halts files Stopped (record { image = None; text = text.items; line = line.items })
+IsJobOf p files (Unended text) = p.halts files StepsOver (record { image = None; text = text.items; line = line_of StepsOver })
 
 -- why a form ends before anything is written or put
-abbrev pub StopsEarly : Form → StoreMeaning → StoreMeaning → Status → Type 0
-StopsEarly form s s' ReadFault = Rose s.read_faults s'.read_faults
-StopsEarly form s s' NoMemory = Unit {0}
-StopsEarly form s s' Absent = Lacks form s.files
-StopsEarly form s s' status = ⊥
+abbrev pub StopsEarly : Promise → StoreMeaning → StoreMeaning → Status → Type 0
+StopsEarly p s s' ReadFault = Rose s.read_faults s'.read_faults
+StopsEarly p s s' NoMemory = Unit {0}
+StopsEarly p s s' Absent = p.lacks s.files
+StopsEarly p s s' status = ⊥
 
 -- the store was only read
 pub record IsOnlyRead (s s' : StoreMeaning) : Type 0 where
@@ -56,9 +56,9 @@ pub record IsOnlyRead (s s' : StoreMeaning) : Type 0 where
   pub later : s.read_faults ≤ s'.read_faults
 
 -- the job was made by reading alone
-pub record IsMade (form : Form) (s s' : StoreMeaning) (made : Result Job Status) : Type 0 where
+pub record IsMade (p : Promise) (s s' : StoreMeaning) (made : Result Job Status) : Type 0 where
   pub read : IsOnlyRead s s'
-  pub job : MatchResult made (IsJobOf form s.files) (StopsEarly form s s')
+  pub job : MatchResult made (IsJobOf p s.files) (StopsEarly p s s')
 
 -- what the reading of a file of at most so many bytes found: the file, or one that is longer
 abbrev pub IsReadWithin : ℕ → Option Files → List ℕ → Option (Vec ℕ Global) → Type 0

@@ -6,12 +6,10 @@ pub mod Program
 pub mod Points
 pub mod Hardened
 pub mod Yield
+pub mod Promise
+pub mod Forms
 pub mod Hexadecimal
 pub mod Loads
-pub mod Runs
-pub mod Disasm
-pub mod Prints
 pub mod Refusals
-pub mod Gives
 pub mod Answers
 pub mod Jobs

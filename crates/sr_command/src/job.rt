@@ -4,6 +4,7 @@ ghost use Rattle.std.specs.Prelude.{◌≡◌, ◌⊎◌, [], IsOk, IsSome, OnOk
 ghost use Rattle.sr_base.specs.Bytes.{Takes, TakesPrefix};
 ghost use Rattle.sr_base.specs.Meanings.{StoreMeaning, SinkMeaning};
 ghost use Rattle.sr_command.specs.Words.{Form};
+ghost use Rattle.sr_command.specs.Forms.{promise_of};
 ghost use Rattle.sr_command.specs.Answers.{world, Tells, IsWritten, KeepsOthers, IsCausedBy, LeavesFilesOf, PutsOutOf, DeliversOf, NotesOf};
 ghost use Rattle.sr_command.specs.Jobs.{output_name, output_bytes, FailsBy, FailsInHandOut, IsMade};
 
@@ -118,26 +119,26 @@ pub fn finish<S: Store, O: Sink, N: Sink>(
     out: &mut O,
     note: &mut N,
 ) -> Status
-    // Whatever form the job was made for, and from whatever state of the store it was read.
+    // Whatever the form promises that the job was made for, and from whatever state of the store it was read.
     ensures cause { (form : Form) (s : StoreMeaning) →
-        IsMade form s (S.meaning store.old) made.entry →
-        IsCausedBy form result (world s (O.meaning out.old) (N.meaning note.old))
+        IsMade (promise_of form) s (S.meaning store.old) made.entry →
+        IsCausedBy (promise_of form) result (world s (O.meaning out.old) (N.meaning note.old))
         (world (S.meaning store.new) (O.meaning out.new) (N.meaning note.new)) }
     ensures files { (form : Form) (s : StoreMeaning) →
-        IsMade form s (S.meaning store.old) made.entry →
-        LeavesFilesOf form result (world s (O.meaning out.old) (N.meaning note.old))
+        IsMade (promise_of form) s (S.meaning store.old) made.entry →
+        LeavesFilesOf (promise_of form) result (world s (O.meaning out.old) (N.meaning note.old))
         (world (S.meaning store.new) (O.meaning out.new) (N.meaning note.new)) }
     ensures out { (form : Form) (s : StoreMeaning) →
-        IsMade form s (S.meaning store.old) made.entry →
-        PutsOutOf form result (world s (O.meaning out.old) (N.meaning note.old))
+        IsMade (promise_of form) s (S.meaning store.old) made.entry →
+        PutsOutOf (promise_of form) result (world s (O.meaning out.old) (N.meaning note.old))
         (world (S.meaning store.new) (O.meaning out.new) (N.meaning note.new)) }
     ensures delivers { (form : Form) (s : StoreMeaning) →
-        IsMade form s (S.meaning store.old) made.entry →
-        DeliversOf form result (world s (O.meaning out.old) (N.meaning note.old))
+        IsMade (promise_of form) s (S.meaning store.old) made.entry →
+        DeliversOf (promise_of form) result (world s (O.meaning out.old) (N.meaning note.old))
         (world (S.meaning store.new) (O.meaning out.new) (N.meaning note.new)) }
     ensures note { (form : Form) (s : StoreMeaning) →
-        IsMade form s (S.meaning store.old) made.entry →
-        NotesOf form result (world s (O.meaning out.old) (N.meaning note.old))
+        IsMade (promise_of form) s (S.meaning store.old) made.entry →
+        NotesOf (promise_of form) result (world s (O.meaning out.old) (N.meaning note.old))
         (world (S.meaning store.new) (O.meaning out.new) (N.meaning note.new)) }
 {
     match made {

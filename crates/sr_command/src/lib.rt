@@ -3,14 +3,11 @@
 //! prints the module of a text.
 #![tactic(auto)]
 
-mod compile;
-mod disasm;
-mod execute;
 mod first_form;
+mod forms;
 mod job;
 mod loading;
 mod points;
-mod print;
 mod program;
 mod refusal;
 mod status;

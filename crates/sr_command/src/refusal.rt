@@ -3,7 +3,7 @@
 ghost use Rattle.std.specs.Prelude.{◌≡◌, [], ◌∷◌, ◌++◌, Err, take, drop, codes, decimal, IfOk, IfErr};
 ghost use Rattle.ir_source.specs.Texts.{IsRead};
 ghost use Rattle.sr_command.specs.Refusals.{refused_line};
-ghost use Rattle.sr_command.specs.Prints.{RefusesShort};
+ghost use Rattle.sr_command.specs.Forms.Print.{RefusesShort};
 
 use crate::status::Status;
 use ir_source::SourceError;

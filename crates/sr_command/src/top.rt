@@ -5,15 +5,16 @@ ghost use Rattle.sr_base.specs.Counts.{Rose};
 ghost use Rattle.sr_base.specs.Meanings.{StoreMeaning};
 ghost use Rattle.sr_command.specs.Words.{form_of};
 ghost use Rattle.sr_command.specs.Commands.{meant, HasGoodFlip};
+ghost use Rattle.sr_command.specs.Forms.{promise_of};
 ghost use Rattle.sr_command.specs.Jobs.{IsJobOf, StopsEarly, IsOnlyRead};
 ghost use Rattle.sr_command.specs.Statuses.{status_of};
 ghost use Rattle.sr_command.specs.Answers.{IsAnswer, world};
 
-use crate::compile::compile;
-use crate::disasm::disasm;
-use crate::execute::execute;
+use crate::forms::compile::compile;
+use crate::forms::disasm::disasm;
+use crate::forms::execute::execute;
+use crate::forms::print::print;
 use crate::job::{Job, finish, tell};
-use crate::print::print;
 use crate::status::Status;
 use crate::words::{Command, parse_words};
 use sr_base::{Sink, Store};
@@ -27,8 +28,8 @@ fn make_job<'a, S: Store>(
 ) -> Result<Job<'a>, Status>
     requires { HasGoodFlip command }
     ensures read { IsOnlyRead (S.meaning store.old) (S.meaning store.new) }
-    ensures job { MatchResult result (IsJobOf (meant command.entry) (S.meaning store.old).files)
-        (StopsEarly (meant command.entry) (S.meaning store.old) (S.meaning store.new)) }
+    ensures job { MatchResult result (IsJobOf (promise_of (meant command.entry)) (S.meaning store.old).files)
+        (StopsEarly (promise_of (meant command.entry)) (S.meaning store.old) (S.meaning store.new)) }
 {
     match command {
         Command::Compile { input, output } => compile(alloc, input, output, store),

@@ -1,0 +1,44 @@
+-- The form `print IN`.
+use Rattle.std.specs.Prelude.{◌≡◌, ◌<◌, ◌≤◌, ℕ, List, [], length, take, drop, Some, None}
+use Rattle.ir_tree.specs.Shape.{ModuleShape}
+use Rattle.ir_print.specs.Printed.{module_text}
+use Rattle.ir_source.specs.Texts.{IsModuleOf, IsRefused}
+use Rattle.ir_source.specs.declared.error.SourceError.TheVariants as source
+use Rattle.sr_command.specs.Loads.{most_text}
+use Rattle.sr_command.specs.Yield.{Yield}
+use Rattle.sr_command.specs.declared.refusal.Refusal.{Refusal}
+use Rattle.sr_command.specs.declared.refusal.Refusal.TheVariants.{TooLong, Bad, Outside, Deep, Syntax}
+use Rattle.sr_command.specs.Promise.{Promise}
+use Rattle.sr_base.specs.Files.{held, Holds}
+
+-- why a text that is short enough is refused: it has no module, for this reason
+abbrev pub RefusesShort : List ℕ → Refusal → Type 0
+RefusesShort text (Bad at) = IsRefused text (source.Bad at)
+RefusesShort text (Outside at word) = (len : ℕ) × IsRefused text (source.Outside at len) × (word.items ≡ take len (drop at text))
+RefusesShort text (Deep at) = IsRefused text (source.Deep at)
+RefusesShort text (Syntax at) = IsRefused text (source.Syntax at)
+RefusesShort text other = ⊥
+
+-- why a text is refused: it is too long, or it is not, and refused
+abbrev pub RefusesPrint : List ℕ → Refusal → Type 0
+RefusesPrint text (TooLong most) = (most ≡ most_text) × (most_text < length text)
+RefusesPrint text refusal = (length text ≤ most_text) × RefusesShort text refusal
+
+-- the text is within its limit, and has this module
+abbrev pub HasModule : List ℕ → ModuleShape → Type 0
+HasModule text m = (length text ≤ most_text) × IsModuleOf text m
+
+-- what printing a text gives: its module in its printed form
+abbrev pub GivesPrinted : List ℕ → Yield → Type 0
+GivesPrinted text given = (m : ModuleShape) × HasModule text m × (given ≡ record { image = None; text = module_text m; line = [] })
+
+-- the promise: IN holds a text, of which the module is printed
+abbrev pub printing : List ℕ → Promise
+printing input = record {
+  gives = λ files given. (text : List ℕ) × Holds files input (Some text) × GivesPrinted text given;
+  halts = λ files status given. ⊥;
+  refuses = λ files why. (text : List ℕ) × Holds files input (Some text) × RefusesPrint text why;
+  lacks = λ files. Holds files input None;
+  output = None;
+  can_be_done = λ files. (text : List ℕ) × (m : ModuleShape) × (held files input ≡ Some (Some text)) × HasModule text m;
+}

@@ -1,0 +1,20 @@
+-- What a form of words promises, over the files that the store tells before.
+use Rattle.std.specs.Prelude.{ℕ, List, Option}
+use Rattle.sr_base.specs.Files.{Files}
+use Rattle.sr_command.specs.Yield.{Yield}
+use Rattle.sr_command.specs.declared.refusal.Refusal.{Refusal}
+use Rattle.sr_command.specs.declared.status.Status.{Status}
+
+pub record Promise : Type 1 where
+  -- what it gives: an executable, a text, and a line of its own, which may be none
+  pub gives : Option Files → Yield → Type 0
+  -- a program is stopped or goes on, so that the form ends with this status, and gives this
+  pub halts : Option Files → Status → Yield → Type 0
+  -- a file that it reads is refused, for this reason
+  pub refuses : Option Files → Refusal → Type 0
+  -- a file that it reads isn't there
+  pub lacks : Option Files → Type 0
+  -- the name that it writes to
+  pub output : Option (List ℕ)
+  -- the store tells that the files which it reads are there, and they are accepted
+  pub can_be_done : Option Files → Type 0
