@@ -11,7 +11,8 @@ use Rattle.sr_command.proofs.ExitSurvives.{exit_is_hardened}
 use Rattle.std.proofs.lemmas.Int.{to_z-of_z}
 use Rattle.sr_command.specs.Loads.{most_text, HasFile}
 use Rattle.sr_command.specs.Forms.Compile.{IsAccepted, GivesExecutable, RefusesText, compiling}
-use Rattle.sr_command.specs.Jobs.{IsBuilt, IsJobOf, StopsEarly}
+use Rattle.sr_command.specs.Jobs.{IsJobOf, StopsEarly}
+use Rattle.sr_command.specs.Forms.Compile.{IsBuilt}
 use Rattle.sr_command.specs.declared.status.Status.{Status}
 use Rattle.sr_command.specs.declared.status.Status.TheVariants.{NoMemory}
 use Rattle.sr_command.proofs.Sound.{IsSound, same_file, not_absent}

@@ -5,7 +5,8 @@ use Rattle.sr_base.specs.Counts.{Rose}
 use Rattle.sr_base.specs.Meanings.{StoreMeaning, SinkMeaning}
 use Rattle.sr_command.specs.Promise.{Promise}
 use Rattle.sr_command.specs.Answers.{world, IsWritten, Delivers, DeliversOf}
-use Rattle.sr_command.specs.Jobs.{IsJobOf, IsOnlyRead, FailsInPut, FailsInHandOut, output_bytes}
+use Rattle.sr_command.specs.Jobs.{IsJobOf, IsOnlyRead, FailsInPut, FailsInHandOut}
+use Rattle.sr_command.specs.Outputs.{output_bytes}
 use Rattle.sr_command.specs.declared.status.Status.{Status}
 use Rattle.sr_command.specs.declared.status.Status.TheVariants.{WriteFault, NoMemory}
 use Rattle.sr_command.specs.declared.job.Output.{Output}

@@ -7,8 +7,10 @@ use Rattle.ir_source.specs.Texts.{IsModuleOf}
 use Rattle.ir_source.specs.declared.error.SourceError.TheVariants as source
 use Rattle.ir_source.proofs.OneWay.{not_refused}
 use Rattle.sr_command.specs.Loads.{most_text, HasFile}
-use Rattle.sr_command.specs.Forms.Print.{RefusesShort, RefusesPrint, HasModule, GivesPrinted, printing}
-use Rattle.sr_command.specs.Jobs.{IsPrinted, IsJobOf, StopsEarly}
+use Rattle.sr_command.specs.Forms.Print.{RefusesPrint, HasModule, GivesPrinted, printing}
+use Rattle.sr_command.specs.Refusals.{HasNoModule}
+use Rattle.sr_command.specs.Jobs.{IsJobOf, StopsEarly}
+use Rattle.sr_command.specs.Forms.Print.{IsPrinted}
 use Rattle.sr_command.specs.declared.refusal.Refusal.{Refusal}
 use Rattle.sr_command.specs.declared.refusal.Refusal.TheVariants.{TooLong, Bad, Outside, Deep, Syntax}
 use Rattle.sr_command.specs.declared.status.Status.{Status}
@@ -26,7 +28,7 @@ gives_printed text out line m short is printed none = (
 )
 
 -- a text that is short enough is refused as it is
-refused_short : (text : List ℕ) (why : Refusal) → length text ≤ most_text → RefusesShort text why → RefusesPrint text why
+refused_short : (text : List ℕ) (why : Refusal) → length text ≤ most_text → HasNoModule text why → RefusesPrint text why
 refused_short text (TooLong most) short h = absurd h
 refused_short text (Bad at) short h = (short, h)
 refused_short text (Outside at word) short h = (short, h)

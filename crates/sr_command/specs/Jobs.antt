@@ -1,6 +1,5 @@
 -- What is left to do once the files are read and all texts are made.
 use Rattle.std.specs.Prelude.{◌≡◌, ◌⊎◌, ℕ, ◌≤◌, List, Option, Some, None, Vec, Result, Err, MatchResult, IsSome}
-use Rattle.std.specs.Option.{option_map}
 use Rattle.std.specs.declared.alloc.Global.{Global}
 use Rattle.sr_base.specs.Counts.{Rose}
 use Rattle.sr_base.specs.Bytes.{TakesPrefix}
@@ -10,28 +9,17 @@ use Rattle.elf_file.specs.Image.{ProgramImage}
 use Rattle.elf_file.specs.Reading.{reading_of, IsAnswer}
 use Rattle.elf_file.specs.declared.error.ElfError.{ElfError}
 use Rattle.sr_command.specs.Promise.{Promise}
+use Rattle.sr_command.specs.Outputs.{output_name, output_bytes}
 use Rattle.sr_command.specs.Statuses.{line_of}
 use Rattle.sr_command.specs.Answers.{IsWritten}
 use Rattle.sr_command.specs.Loads.{HasBoth, HasFile, HasLonger, HasInput, HasLongerInput, LacksInput, IsLoaded, RefusesLoad, LacksLoad}
-use Rattle.sr_command.specs.Forms.Compile.{GivesExecutable, RefusesText}
-use Rattle.sr_command.specs.Forms.Execute.{IsAnswered}
-use Rattle.sr_command.specs.Forms.Print.{GivesPrinted, RefusesShort}
 use Rattle.sr_command.specs.declared.loading.Loaded.{Loaded}
 use Rattle.sr_command.specs.declared.loading.Loaded.TheVariants.{Program, Refused}
-use Rattle.rv_model.specs.Run.{RunResult}
 use Rattle.sr_command.specs.declared.status.Status.{Status}
-use Rattle.sr_command.specs.declared.status.Status.TheVariants.{Done, Stopped, StepsOver, ReadFault, WriteFault, NoMemory, Absent}
+use Rattle.sr_command.specs.declared.status.Status.TheVariants.{Stopped, StepsOver, ReadFault, WriteFault, NoMemory, Absent}
 use Rattle.sr_command.specs.declared.job.Output.{Output}
 use Rattle.sr_command.specs.declared.job.Job.{Job}
 use Rattle.sr_command.specs.declared.job.Job.TheVariants.{Whole, Refuse, Halt, Unended}
-
--- the name of what is to be written
-abbrev pub output_name : Option Output → Option (List ℕ)
-output_name output = option_map (λ o. o.name.now) output
-
--- its bytes
-abbrev pub output_bytes : Option Output → Option (List ℕ)
-output_bytes output = option_map (λ o. o.bytes.items) output
 
 -- the job is that of a form with this promise: what it gives, or why it is refused
 abbrev pub IsJobOf : Promise → Option Files → Job → Type 0
@@ -90,20 +78,6 @@ FailsInHandOut output text s s' o o' NoMemory =
     ((o' ≡ o) × Rose s.write_wants s'.write_wants) ⊎ (FailsInPut output text s' o o' × Rose o.wants o'.wants)
 FailsInHandOut output text s s' o o' status = ⊥
 
--- the job of a text that was read
-abbrev pub IsBuilt : List ℕ → List ℕ → Job → Type 0
-IsBuilt text output (Whole whole out line) =
-    (output_name whole ≡ Some output) × GivesExecutable text (record { image = output_bytes whole; text = out.items; line = line.items })
-IsBuilt text output (Refuse why) = RefusesText text why
-IsBuilt text output other = ⊥
-
--- the job of a text that was read, and is to be printed
-abbrev pub IsPrinted : List ℕ → Job → Type 0
-IsPrinted text (Whole whole out line) =
-    (output_name whole ≡ None) × GivesPrinted text (record { image = output_bytes whole; text = out.items; line = line.items })
-IsPrinted text (Refuse why) = RefusesShort text why
-IsPrinted text other = ⊥
-
 -- what the reading of an input found: its bytes, or a file that is too long
 abbrev pub IsInputAs : Option Files → Option (List ℕ) → Option (Vec ℕ Global) → Type 0
 IsInputAs files input None = HasLongerInput files input
@@ -132,11 +106,3 @@ StopsLoading s s' program input ReadFault = Rose s.read_faults s'.read_faults
 StopsLoading s s' program input NoMemory = Unit {0}
 StopsLoading s s' program input Absent = LacksLoad s.files program input
 StopsLoading s s' program input status = ⊥
-
--- the job of a run
-abbrev pub IsReport : RunResult → Job → Type 0
-IsReport result (Whole output text line) =
-    (output_name output ≡ None) × IsAnswered result Done (record { image = output_bytes output; text = text.items; line = line.items })
-IsReport result (Refuse why) = ⊥
-IsReport result (Halt text line) = IsAnswered result Stopped (record { image = None; text = text.items; line = line.items })
-IsReport result (Unended text) = IsAnswered result StepsOver (record { image = None; text = text.items; line = line_of StepsOver })

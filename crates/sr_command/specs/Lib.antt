@@ -7,6 +7,7 @@ pub mod Points
 pub mod Hardened
 pub mod Yield
 pub mod Promise
+pub mod Outputs
 pub mod Forms
 pub mod Hexadecimal
 pub mod Loads

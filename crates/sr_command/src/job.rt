@@ -6,7 +6,8 @@ ghost use Rattle.sr_base.specs.Meanings.{StoreMeaning, SinkMeaning};
 ghost use Rattle.sr_command.specs.Words.{Form};
 ghost use Rattle.sr_command.specs.Forms.{promise_of};
 ghost use Rattle.sr_command.specs.Answers.{world, Tells, IsWritten, KeepsOthers, IsCausedBy, LeavesFilesOf, PutsOutOf, DeliversOf, NotesOf};
-ghost use Rattle.sr_command.specs.Jobs.{output_name, output_bytes, FailsBy, FailsInHandOut, IsMade};
+ghost use Rattle.sr_command.specs.Jobs.{FailsBy, FailsInHandOut, IsMade};
+ghost use Rattle.sr_command.specs.Outputs.{output_name, output_bytes};
 
 use crate::refusal::Refusal;
 use crate::status::Status;

@@ -3,7 +3,7 @@
 ghost use Rattle.std.specs.Prelude.{◌≡◌, [], ◌∷◌, ◌++◌, Err, take, drop, codes, decimal, IfOk, IfErr};
 ghost use Rattle.ir_source.specs.Texts.{IsRead};
 ghost use Rattle.sr_command.specs.Refusals.{refused_line};
-ghost use Rattle.sr_command.specs.Forms.Print.{RefusesShort};
+ghost use Rattle.sr_command.specs.Refusals.{HasNoModule};
 
 use crate::status::Status;
 use ir_source::SourceError;
@@ -63,7 +63,7 @@ fn bytes_at(text: &[u8], at: usize, len: usize) -> &[u8]
 
 /// Returns why a text is refused that was not read for this reason; `NoMemory` where memory ran out.
 pub fn text_refusal(alloc: Global, text: &[u8], error: SourceError) -> Result<Refusal, Status>
-    ensures ok { IsRead text.now (Err error) → IfOk result (RefusesShort text.now) }
+    ensures ok { IsRead text.now (Err error) → IfOk result (HasNoModule text.now) }
     ensures err { IfErr result (λ status. status ≡ Status.NoMemory) }
 {
     match error {

@@ -7,6 +7,9 @@ use Rattle.sr_command.specs.FirstForm.{Returns, exit_status}
 use Rattle.sr_command.specs.Hardened.{IsHardened}
 use Rattle.sr_command.specs.Loads.{most_text}
 use Rattle.sr_command.specs.Promise.{Promise}
+use Rattle.sr_command.specs.Outputs.{output_name, output_bytes}
+use Rattle.sr_command.specs.declared.job.Job.{Job}
+use Rattle.sr_command.specs.declared.job.Job.TheVariants.{Whole, Refuse}
 use Rattle.sr_command.specs.Yield.{Yield}
 use Rattle.sr_command.specs.declared.refusal.Refusal.{Refusal}
 use Rattle.sr_command.specs.declared.refusal.Refusal.TheVariants.{TooLong, NotBuilt}
@@ -26,6 +29,13 @@ abbrev pub RefusesText : List ℕ → Refusal → Type 0
 RefusesText text (TooLong most) = (most ≡ most_text) × (most_text < length text)
 RefusesText text NotBuilt = (length text ≤ most_text) × ((number : ℤ) → Returns text number → ⊥)
 RefusesText text other = ⊥
+
+-- the job of a text that was read
+abbrev pub IsBuilt : List ℕ → List ℕ → Job → Type 0
+IsBuilt text output (Whole whole out line) =
+    (output_name whole ≡ Some output) × GivesExecutable text (record { image = output_bytes whole; text = out.items; line = line.items })
+IsBuilt text output (Refuse why) = RefusesText text why
+IsBuilt text output other = ⊥
 
 -- the promise: IN holds a text, of which the executable is made, and OUT is written
 abbrev pub compiling : List ℕ → List ℕ → Promise

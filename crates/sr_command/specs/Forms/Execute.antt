@@ -14,6 +14,9 @@ use Rattle.sr_command.specs.Yield.{Yield}
 use Rattle.sr_command.specs.declared.status.Status.{Status}
 use Rattle.sr_command.specs.declared.status.Status.TheVariants.{Done, Stopped, StepsOver}
 use Rattle.sr_command.specs.Promise.{Promise}
+use Rattle.sr_command.specs.Outputs.{output_name, output_bytes}
+use Rattle.sr_command.specs.declared.job.Job.{Job}
+use Rattle.sr_command.specs.declared.job.Job.TheVariants.{Whole, Refuse, Halt, Unended}
 
 -- the line of a program that ended with a status after so many steps
 abbrev pub ended_line : ℕ → ℕ → List ℕ
@@ -51,6 +54,14 @@ IsAnswered result status given = (status ≡ run_status result) × (given ≡ ru
 abbrev pub Runs : Option Files → List ℕ → Option (List ℕ) → ℕ → Option Flip → Status → Yield → Type 0
 Runs files program input steps flip status given =
     (image : ProgramImage) × (content : List ℕ) × IsLoaded files program input image content × IsAnswered (run steps (started image content) flip) status given
+
+-- the job of a run
+abbrev pub IsReport : RunResult → Job → Type 0
+IsReport result (Whole output text line) =
+    (output_name output ≡ None) × IsAnswered result Done (record { image = output_bytes output; text = text.items; line = line.items })
+IsReport result (Refuse why) = ⊥
+IsReport result (Halt text line) = IsAnswered result Stopped (record { image = None; text = text.items; line = line.items })
+IsReport result (Unended text) = IsAnswered result StepsOver (record { image = None; text = text.items; line = line_of StepsOver })
 
 -- the promise: the program is run on its input, and ends, traps or goes on
 abbrev pub executing : List ℕ → Option (List ℕ) → ℕ → Option Flip → Promise

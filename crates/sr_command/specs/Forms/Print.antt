@@ -1,28 +1,23 @@
 -- The form `print IN`.
-use Rattle.std.specs.Prelude.{◌≡◌, ◌<◌, ◌≤◌, ℕ, List, [], length, take, drop, Some, None}
+use Rattle.std.specs.Prelude.{◌≡◌, ◌<◌, ◌≤◌, ℕ, List, [], length, Some, None}
 use Rattle.ir_tree.specs.Shape.{ModuleShape}
 use Rattle.ir_print.specs.Printed.{module_text}
-use Rattle.ir_source.specs.Texts.{IsModuleOf, IsRefused}
-use Rattle.ir_source.specs.declared.error.SourceError.TheVariants as source
+use Rattle.ir_source.specs.Texts.{IsModuleOf}
 use Rattle.sr_command.specs.Loads.{most_text}
 use Rattle.sr_command.specs.Yield.{Yield}
 use Rattle.sr_command.specs.declared.refusal.Refusal.{Refusal}
-use Rattle.sr_command.specs.declared.refusal.Refusal.TheVariants.{TooLong, Bad, Outside, Deep, Syntax}
+use Rattle.sr_command.specs.declared.refusal.Refusal.TheVariants.{TooLong}
 use Rattle.sr_command.specs.Promise.{Promise}
+use Rattle.sr_command.specs.Refusals.{HasNoModule}
+use Rattle.sr_command.specs.Outputs.{output_name, output_bytes}
+use Rattle.sr_command.specs.declared.job.Job.{Job}
+use Rattle.sr_command.specs.declared.job.Job.TheVariants.{Whole, Refuse}
 use Rattle.sr_base.specs.Files.{held, Holds}
-
--- why a text that is short enough is refused: it has no module, for this reason
-abbrev pub RefusesShort : List ℕ → Refusal → Type 0
-RefusesShort text (Bad at) = IsRefused text (source.Bad at)
-RefusesShort text (Outside at word) = (len : ℕ) × IsRefused text (source.Outside at len) × (word.items ≡ take len (drop at text))
-RefusesShort text (Deep at) = IsRefused text (source.Deep at)
-RefusesShort text (Syntax at) = IsRefused text (source.Syntax at)
-RefusesShort text other = ⊥
 
 -- why a text is refused: it is too long, or it is not, and refused
 abbrev pub RefusesPrint : List ℕ → Refusal → Type 0
 RefusesPrint text (TooLong most) = (most ≡ most_text) × (most_text < length text)
-RefusesPrint text refusal = (length text ≤ most_text) × RefusesShort text refusal
+RefusesPrint text refusal = (length text ≤ most_text) × HasNoModule text refusal
 
 -- the text is within its limit, and has this module
 abbrev pub HasModule : List ℕ → ModuleShape → Type 0
@@ -31,6 +26,13 @@ HasModule text m = (length text ≤ most_text) × IsModuleOf text m
 -- what printing a text gives: its module in its printed form
 abbrev pub GivesPrinted : List ℕ → Yield → Type 0
 GivesPrinted text given = (m : ModuleShape) × HasModule text m × (given ≡ record { image = None; text = module_text m; line = [] })
+
+-- the job of a text that was read
+abbrev pub IsPrinted : List ℕ → Job → Type 0
+IsPrinted text (Whole whole out line) =
+    (output_name whole ≡ None) × GivesPrinted text (record { image = output_bytes whole; text = out.items; line = line.items })
+IsPrinted text (Refuse why) = HasNoModule text why
+IsPrinted text other = ⊥
 
 -- the promise: IN holds a text, of which the module is printed
 abbrev pub printing : List ℕ → Promise

@@ -7,7 +7,8 @@ ghost use Rattle.sr_command.specs.Forms.Compile.{compiling};
 ghost use Rattle.sr_command.specs.Program.{executable};
 ghost use Rattle.sr_command.specs.Points.{exit_points};
 ghost use Rattle.sr_command.specs.Loads.{most_text};
-ghost use Rattle.sr_command.specs.Jobs.{IsJobOf, StopsEarly, IsOnlyRead, IsBuilt};
+ghost use Rattle.sr_command.specs.Jobs.{IsJobOf, StopsEarly, IsOnlyRead};
+ghost use Rattle.sr_command.specs.Forms.Compile.{IsBuilt};
 
 use crate::first_form::{exit_status, returned_number};
 use crate::job::{Job, Output};

@@ -7,7 +7,8 @@ ghost use Rattle.rv_machine.specs.Outcomes.{IsOutcome};
 ghost use Rattle.rv_model.specs.Run.{FlipFits, RunResult};
 ghost use Rattle.sr_command.specs.Commands.{word_bytes};
 ghost use Rattle.sr_command.specs.Forms.Execute.{executing, ended_line, cause_word, trap_line};
-ghost use Rattle.sr_command.specs.Jobs.{IsJobOf, StopsEarly, IsOnlyRead, IsReport};
+ghost use Rattle.sr_command.specs.Jobs.{IsJobOf, StopsEarly, IsOnlyRead};
+ghost use Rattle.sr_command.specs.Forms.Execute.{IsReport};
 
 use crate::job::Job;
 use crate::loading::{Loaded, load};

@@ -4,7 +4,8 @@ ghost use Rattle.std.specs.Prelude.{◌≡◌, ◌≤◌, length, IfOk, IfErr, M
 ghost use Rattle.sr_base.specs.Meanings.{StoreMeaning};
 ghost use Rattle.sr_command.specs.Loads.{most_text};
 ghost use Rattle.sr_command.specs.Forms.Print.{printing};
-ghost use Rattle.sr_command.specs.Jobs.{IsJobOf, StopsEarly, IsOnlyRead, IsPrinted};
+ghost use Rattle.sr_command.specs.Jobs.{IsJobOf, StopsEarly, IsOnlyRead};
+ghost use Rattle.sr_command.specs.Forms.Print.{IsPrinted};
 
 use crate::job::Job;
 use crate::loading::{MOST_TEXT, read_file};

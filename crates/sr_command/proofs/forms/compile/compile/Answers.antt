@@ -1,5 +1,5 @@
 use Rattle.std.proofs.Common.{ℕ, List, refl, subst, IfOk}
-use Rattle.sr_command.specs.Jobs.{IsBuilt}
+use Rattle.sr_command.specs.Forms.Compile.{IsBuilt}
 use Rattle.sr_command.proofs.CompileLaws.{compile_job}
 use Rattle.sr_command.proofs.forms.compile.compile.Goals as goal
 

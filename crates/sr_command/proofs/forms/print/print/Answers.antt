@@ -1,5 +1,5 @@
 use Rattle.std.proofs.Common.{ℕ, List, refl, subst, IfOk}
-use Rattle.sr_command.specs.Jobs.{IsPrinted}
+use Rattle.sr_command.specs.Forms.Print.{IsPrinted}
 use Rattle.sr_command.proofs.PrintLaws.{print_job}
 use Rattle.sr_command.proofs.forms.print.print.Goals as goal
 
