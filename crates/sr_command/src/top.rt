@@ -28,8 +28,10 @@ fn make_job<'a, S: Store>(
 ) -> Result<Job<'a>, Status>
     requires { HasGoodFlip command }
     ensures read { IsOnlyRead (S.meaning store.old) (S.meaning store.new) }
-    ensures job { MatchResult result (IsJobOf (promise_of (meant command.entry)) (S.meaning store.old).files)
-        (StopsEarly (promise_of (meant command.entry)) (S.meaning store.old) (S.meaning store.new)) }
+    ensures job { MatchResult result
+        (IsJobOf (promise_of (meant command.entry)) (S.meaning store.old).files)
+        (StopsEarly (promise_of (meant command.entry))
+        (S.meaning store.old) (S.meaning store.new)) }
 {
     match command {
         Command::Compile { input, output } => compile(alloc, input, output, store),
