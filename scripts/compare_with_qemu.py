@@ -2,7 +2,7 @@
 """Compares the machine with a user emulator of RISC-V (Debian's qemu-user, and binutils-riscv64-linux-gnu).
 
 Every instruction is run on numbers at the edges, in `swiftr run` and in qemu-riscv64: both must put out the same bytes
-and end with the same status. The expected values of the machine's own tests are computed by the emulator too. Where a
+and end with the same status. The wanted answers of the rows of `rows_machine` are computed by the emulator too. Where a
 tool is missing the comparison is skipped.
 """
 
@@ -129,17 +129,25 @@ def sweep():
 
 
 def rows():
-    """The rows of the machine's table of operations: a word, two numbers, and what comes of them."""
-    text = (TOP / "crates/rv_machine/src/tests.rt").read_text()
-    table = text[text.index("const OPERATIONS") :]
-    table = re.sub(r"//[^\n]*", "", table[table.index("= [") + 3 : table.index("\n];")])
-    number = r"\s*((?:0x)?[0-9a-f_]+),"
-    return [tuple(int(x.replace("_", ""), 0) for x in row) for row in re.findall(rf"\({number}{number}{number}\s*((?:0x)?[0-9a-f_]+),?\s*\)", table)]
+    """The rows of one instruction, as a word, two numbers, and what x10 holds after it by the wanted answers."""
+    crate = TOP / "crates/rows_machine"
+    wanted = dict(line.split(": ", 1) for line in (crate / "stdout").read_text().splitlines() if ": " in line)
+    found = []
+    for line in (crate / "data/steps.txt").read_text().splitlines():
+        if not line or line.startswith("#"):
+            continue
+        name, *numbers = line.split()
+        value = re.search(r" x10=([0-9a-f]+)", wanted[name])
+        word = int(numbers[0], 16)
+        # Loads, AUIPC, branches and jumps go by the addresses of the rows.
+        if value and word & 0x7F not in (0b0000011, 0b0010111, 0b1100011, 0b1101111, 0b1100111):
+            found.append((word, int(numbers[1], 16), int(numbers[2], 16), int(value[1], 16)))
+    return found
 
 
 def check_rows(folder):
-    """The table against the emulator; loads and AUIPC are left out, since they go by the addresses of the machine's tests."""
-    found = [row for row in rows() if row[0] & 0x7F not in (0b0000011, 0b0010111)]
+    """The wanted answers of rows_machine against the emulator."""
+    found = rows()
     program = Program()
     for word, a, b, _ in found:
         program.case(a, b, f".word {word:#x}")
@@ -150,8 +158,8 @@ def check_rows(folder):
         got = int.from_bytes(out[8 * at : 8 * at + 8], "little")
         if got != value:
             wrong += 1
-            print(f"{word:#010x} at {a:#x} and {b:#x}: the table says {value:#x}, the emulator {got:#x}")
-    print(f"table of the machine's tests: {len(found)} rows, {wrong} wrong")
+            print(f"{word:#010x} at {a:#x} and {b:#x}: the row says {value:#x}, the emulator {got:#x}")
+    print(f"rows of one instruction: {len(found)} rows, {wrong} wrong")
     return wrong
 
 
