@@ -1,0 +1,4 @@
+//! The layout of types: size, alignment, and where a structure's fields lie.
+#![tactic(auto)]
+
+pub mod sizes;
