@@ -2,3 +2,4 @@
 #![tactic(auto)]
 
 pub mod sizes;
+pub mod types;
