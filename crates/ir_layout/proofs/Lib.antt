@@ -1,2 +1,4 @@
 pub mod Relations
 pub mod Parts
+pub mod Found
+pub mod Laid
