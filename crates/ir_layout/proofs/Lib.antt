@@ -2,3 +2,5 @@ pub mod Relations
 pub mod Parts
 pub mod Found
 pub mod Laid
+pub mod Slices
+pub mod Numbered
