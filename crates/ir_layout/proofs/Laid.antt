@@ -25,7 +25,8 @@ pub record Fits (names : List (List ℕ)) (layouts : List (Option Layout)) : Typ
   pub distinct : IsDistinct bytes_eq names
   pub long : length layouts ≡ length names
 
-some_found : (o : Option (Option Layout)) (l : Layout) → unwrap_or o None ≡ Some l → o ≡ Some (Some l)
+-- a layout that a table gives stands in it
+pub some_found : (o : Option (Option Layout)) (l : Layout) → unwrap_or o None ≡ Some l → o ≡ Some (Some l)
 some_found None l e = cc
 some_found (Some o) l e = ap (λ (z : Option Layout). Some z) e
 
@@ -77,8 +78,8 @@ row_gives names layouts [] known (f ∷ fields) none = absurd none
 row_gives names layouts (t ∷ ts) known [] none = absurd none
 row_gives names layouts (t ∷ ts) known (f ∷ fields) (has, have) =
     let head : ty_layout layouts t.0 ≡ Some f = (t.1 (and_left _ _ known) f).1 has in
-    let rest : map (ty_layout layouts) (map (λ e. e.0) ts) ≡ map (λ f. Some f) fields = row_gives names layouts ts (and_right _ _ known) fields have in
-    cc
+    ap (λ (o : Option Layout). o ∷ map (ty_layout layouts) (map (λ (e : (u : Ty) × IsRight names layouts u). e.0) ts)) head
+    ∙ ap (λ (z : List (Option Layout)). Some f ∷ z) (row_gives names layouts ts (and_right _ _ known) fields have)
 
 right_at : (names : List (List ℕ)) (layouts : List (Option Layout)) → Fits names layouts → (y : ty.Ty-F ((t : Ty) × IsRight names layouts t))
     → ty_known_step (length names) (map-Ty Ty Bool (ty_known (length names)) (map-Ty ((t : Ty) × IsRight names layouts t) Ty (λ e. e.0) y)) ≡ true

@@ -4,3 +4,5 @@ pub mod Found
 pub mod Laid
 pub mod Slices
 pub mod Numbered
+pub mod Entries
+pub mod Rounds

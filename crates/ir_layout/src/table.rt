@@ -32,8 +32,38 @@ impl Model for Layouts {
     ghost view = { λ t. t.of_name.items };
 }
 
+impl Layouts {
+    /// Lays out the named types of a module. The time is linear in the module's types and names.
+    pub fn of_module(alloc: Global, m: &Module) -> Result<Layouts, AllocError>
+        requires known { module_known m.now ≡ true }
+        ensures whole { IfOk result (λ layouts. IsWholeTable m.now layouts) }
+    {
+        let count = m.names.len();
+        let first = first_types(alloc, &m.types, count)?;
+        let order = names_in_order(alloc, &m.types, &first)?;
+        let mut of_name = vec![in alloc; None; count]?;
+        enter_in_order(m, &first, &order, &mut of_name);
+        while enter_all(m, &first, &mut of_name) {}
+        Ok(Layouts { of_name })
+    }
+
+    /// Returns the layout of a type, or `None` where the type has none.
+    pub fn layout_of(&self, ty: &Ty) -> Option<Layout>
+        ensures { (m : Module) → module_known m ≡ true → IsWholeTable m self.now →
+            ty_known (length m.names) ty.now ≡ true → (l : Layout) →
+            (result ≡ Some l) ↔ HasLayout (module_shape m).types (ty_shape m.names ty.now) l }
+    {
+        layout_in(&self.of_name, ty)
+    }
+}
+
 /// Enters the layout of a name, if it has none yet and gets one. Returns whether it did.
-fn enter(types: &[NamedTy], first: &[Option<usize>], layouts: &mut [Option<Layout>], id: usize) -> bool
+fn enter(
+    types: &[NamedTy],
+    first: &[Option<usize>],
+    layouts: &mut [Option<Layout>],
+    id: usize,
+) -> bool
     requires first { AreFirst types.now first.now }
     requires long { length layouts.old ≡ length first.now }
     requires within { id < length layouts.old }
@@ -53,4 +83,43 @@ fn enter(types: &[NamedTy], first: &[Option<usize>], layouts: &mut [Option<Layou
             }
         },
     }
+}
+
+/// Enters the layouts of names in an order. In the right order each name that has a layout gets it.
+fn enter_in_order(
+    m: &Module,
+    first: &[Option<usize>],
+    order: &[usize],
+    layouts: &mut [Option<Layout>],
+)
+    requires known { module_known m.now ≡ true }
+    requires first { AreFirst m.now.types.items first.now }
+    requires long { length layouts.old ≡ length first.now }
+    requires sound { IsSoundTable m.now layouts.old }
+    ensures sound { IsSoundTable m.now layouts.new }
+{
+    for id in order {
+        if *id < layouts.len() {
+            let _ = enter(&m.types, first, layouts, *id);
+        }
+    }
+}
+
+/// Enters the layout of each name that has none yet and gets one. Returns whether there was such a name.
+fn enter_all(m: &Module, first: &[Option<usize>], layouts: &mut [Option<Layout>]) -> bool
+    requires known { module_known m.now ≡ true }
+    requires first { AreFirst m.now.types.items first.now }
+    requires long { length layouts.old ≡ length first.now }
+    requires sound { IsSoundTable m.now layouts.old }
+    ensures sound { IsSoundTable m.now layouts.new }
+    ensures fewer { OnTrue result (count_empty layouts.new < count_empty layouts.old) }
+    ensures stuck { OnFalse result (AreStuck m.now.types.items layouts.new (length layouts.new)) }
+{
+    let mut entered = false;
+    for id in 0..layouts.len() {
+        if enter(&m.types, first, layouts, id) {
+            entered = true;
+        }
+    }
+    entered
 }
