@@ -1,7 +1,7 @@
 -- A table of layouts stays sound as it fills, and is whole when nothing more can be entered.
-use Rattle.std.proofs.Common.{◌≡◌, ℕ, ◌+◌, ◌<◌, ◌≤◌, ◌⊎◌, inl, inr, Bool, true, false, List, [], ◌∷◌, length, map, Option, Some, None, refl, sym, ◌∙◌, ap, subst, arith, zero, suc, slice_get, ◌==◌, ltb-true}
+use Rattle.std.proofs.Common.{◌≡◌, ℕ, ◌+◌, ◌<◌, inl, inr, Bool, true, false, List, [], ◌∷◌, length, map, Option, Some, None, refl, sym, ◌∙◌, ap, subst, arith, zero, suc, slice_get, ◌==◌, ltb-true}
 use Rattle.std.proofs.Math.ListN.{set, replicate}
-use Rattle.std.specs.Prelude.{is_some, is_none, unwrap_or, if◌then◌else◌, ◌↔◌}
+use Rattle.std.specs.Prelude.{is_some, is_none, if◌then◌else◌, ◌↔◌}
 use Rattle.std.specs.Option.{option_and_then}
 use Rattle.std.specs.List.{list_all, IsDistinct}
 use Rattle.std.specs.Str.{bytes_eq}
@@ -10,7 +10,7 @@ use Rattle.std.proofs.lemmas.List.{length-set, length-replicate}
 use Rattle.std.proofs.lemmas.Option.{slice_get_within}
 use Rattle.std.proofs.lemmas.Slice.Eq.{bytes_eq-Decides}
 use Rattle.ir_tree.specs.NameTable.{text_of}
-use Rattle.ir_tree.specs.Shape.{TyShape, NamedTyShape, named}
+use Rattle.ir_tree.specs.Shape.{TyShape, named}
 use Rattle.ir_tree.specs.ShapeOf.{ty_shape, named_ty_shape, module_shape}
 use Rattle.ir_tree.specs.Known.{ty_known, named_ty_known, module_known}
 use Rattle.ir_tree.specs.declared.types.Ty.{Ty}
@@ -40,10 +40,10 @@ number_known n [] id t known e = cc
 number_known n (x ∷ ts) id t known e =
     elim (eqb_tells x.name.0 id) [
       | inl h ↦
-        let here : x.ty ≡ t = some_ty x.ty t (rw h.0 at e) in
-        let both = and_left _ _ known in
-        let below : x.name.0 < n = ltb-true x.name.0 n (and_left _ _ both) in
-        (subst (λ (z : Ty). ty_known n z ≡ true) here (and_right _ _ both), omega (arith, below, h.1))
+          let here : x.ty ≡ t = some_ty x.ty t (rw h.0 at e) in
+          let both = and_left _ _ known in
+          let below : x.name.0 < n = ltb-true x.name.0 n (and_left _ _ both) in
+          (subst (λ (z : Ty). ty_known n z ≡ true) here (and_right _ _ both), omega (arith, below, h.1))
       | inr h ↦ number_known n ts id t (and_right _ _ known) (rw h.0 at e)
     ]
 
@@ -64,13 +64,13 @@ number_stands names distinct [] id t known within e = cc
 number_stands names distinct (x ∷ ts) id t known within e =
     elim (eqb_tells x.name.0 id) [
       | inl h ↦
-        let here : x.ty ≡ t = some_ty x.ty t (rw h.0 at e) in
-        let same = (bytes_eq-Decides (text_of names x.name.0) (text_of names id)).1 (ap (text_of names) h.1) in
-        rw same (ap (λ (z : Ty). Some (ty_shape names z)) here)
+          let here : x.ty ≡ t = some_ty x.ty t (rw h.0 at e) in
+          let same = (bytes_eq-Decides (text_of names x.name.0) (text_of names id)).1 (ap (text_of names) h.1) in
+          rw same (ap (λ (z : Ty). Some (ty_shape names z)) here)
       | inr h ↦
-        let below : x.name.0 < length names = ltb-true x.name.0 (length names) (and_left _ _ (and_left _ _ known)) in
-        let differ = false_if_not (bytes_eq (text_of names x.name.0) (text_of names id)) (texts_differ names distinct x.name.0 id below within h.1) in
-        rw differ (number_stands names distinct ts id t (and_right _ _ known) within (rw h.0 at e))
+          let below : x.name.0 < length names = ltb-true x.name.0 (length names) (and_left _ _ (and_left _ _ known)) in
+          let differ = false_if_not (bytes_eq (text_of names x.name.0) (text_of names id)) (texts_differ names distinct x.name.0 id below within h.1) in
+          rw differ (number_stands names distinct ts id t (and_right _ _ known) within (rw h.0 at e))
     ]
 
 some_shape : (t u : TyShape) → Some t ≡ Some u → t ≡ u
@@ -98,9 +98,9 @@ number_at names x ts name u false is e rest =
     let first : type_of_number (x ∷ ts) later.0 ≡ Some later.1 =
     elim (eqb_tells x.name.0 later.0) [
       | inl h ↦
-        let same = (bytes_eq-Decides (text_of names x.name.0) name).1 (ap (text_of names) h.1 ∙ later.2) in
-        let wrong : true ≡ false = sym same ∙ is in
-        cc
+          let same = (bytes_eq-Decides (text_of names x.name.0) name).1 (ap (text_of names) h.1 ∙ later.2) in
+          let wrong : true ≡ false = sym same ∙ is in
+          cc
       | inr h ↦ rw h.0 later.3
     ] in
     (later.0, later.1, later.2, first, later.4)
@@ -160,14 +160,14 @@ entered_with m known layouts s id within (Some l) e = record {
   distinct = s.distinct;
   long = length-set layouts id (Some l) ∙ s.long;
   sound = λ k j has.
-    elim (eqb_tells id k) [
-      | inl h ↦
-        let written = subst (λ (n : ℕ). slice_get (set layouts id (Some l)) n ≡ Some (Some l)) h.1 (get_set_same layouts id (Some l) within) in
-        let one : l ≡ j = some_layout l j (sym written ∙ has) in
-        subst (λ (z : Layout). HasLayout (module_shape m).types (named (text_of m.names k)) z) one
-        (subst (λ (n : ℕ). HasLayout (module_shape m).types (named (text_of m.names n)) l) h.1 (new_has m known layouts s id l e))
-      | inr h ↦ s.sound k j (sym (get_set_other layouts id k (Some l) h.1) ∙ has)
-    ];
+      elim (eqb_tells id k) [
+        | inl h ↦
+            let written = subst (λ (n : ℕ). slice_get (set layouts id (Some l)) n ≡ Some (Some l)) h.1 (get_set_same layouts id (Some l) within) in
+            let one : l ≡ j = some_layout l j (sym written ∙ has) in
+            subst (λ (z : Layout). HasLayout (module_shape m).types (named (text_of m.names k)) z) one
+            (subst (λ (n : ℕ). HasLayout (module_shape m).types (named (text_of m.names n)) l) h.1 (new_has m known layouts s id l e))
+        | inr h ↦ s.sound k j (sym (get_set_other layouts id k (Some l) h.1) ∙ has)
+      ];
 }
 
 -- a sound table stays sound
@@ -244,8 +244,8 @@ module _ (m : Module) (known : module_known m ≡ true) (layouts : List (Option 
   whole_if_stuck stuck = record {
     is_sound = s;
     whole = λ id l within has.
-      at_number m.names layouts (fits_of m layouts s) id l within
-      (table_complete (module_shape m).types (InTable m.names layouts) (closed_if_stuck stuck) (named (text_of m.names id)) l has);
+        at_number m.names layouts (fits_of m layouts s) id l within
+        (table_complete (module_shape m).types (InTable m.names layouts) (closed_if_stuck stuck) (named (text_of m.names id)) l has);
   }
 
 -- a whole table is closed
@@ -261,6 +261,7 @@ closed_if_whole m known layouts w name u l stands has =
 pub whole_computed : (m : Module) → module_known m ≡ true → (layouts : List (Option Layout)) → IsWholeTable m layouts → (t : Ty) → ty_known (length m.names) t ≡ true
     → (l : Layout) → (ty_layout layouts t ≡ Some l) ↔ HasLayout (module_shape m).types (ty_shape m.names t) l
 whole_computed m known layouts w t names l = (
-    λ e. computed_sound m layouts w.is_sound t l names e,
-    λ has. (computed_right m.names layouts (fits_of m layouts w.is_sound) t names l).1
-    (table_complete (module_shape m).types (InTable m.names layouts) (closed_if_whole m known layouts w) (ty_shape m.names t) l has))
+  λ e. computed_sound m layouts w.is_sound t l names e,
+  λ has. (computed_right m.names layouts (fits_of m layouts w.is_sound) t names l).1
+      (table_complete (module_shape m).types (InTable m.names layouts) (closed_if_whole m known layouts w) (ty_shape m.names t) l has),
+)

@@ -1,11 +1,11 @@
 -- The computed layout of a type is the one that the rules give by what the table says.
-use Rattle.std.proofs.Common.{◌≡◌, ℕ, ◌<◌, ◌≤◌, Bool, true, List, [], ◌∷◌, length, map, Option, Some, None, refl, sym, ◌∙◌, ap, subst, arith, ltb-true, slice_get, zero, suc}
+use Rattle.std.proofs.Common.{◌≡◌, ℕ, ◌<◌, Bool, true, List, [], ◌∷◌, length, map, Option, Some, None, refl, sym, ◌∙◌, ap, subst, arith, ltb-true, slice_get, zero, suc}
 use Rattle.std.specs.Prelude.{unwrap_or, ◌↔◌}
 use Rattle.std.specs.List.{list_all, IsDistinct}
 use Rattle.std.specs.Str.{bytes_eq}
-use Rattle.std.proofs.lemmas.Option.{slice_get_within, slice_get_cases}
+use Rattle.std.proofs.lemmas.Option.{slice_get_within}
 use Rattle.ir_tree.specs.NameTable.{text_of}
-use Rattle.ir_tree.specs.Shape.{TyShape, TyShapes, integer, pointer, void, array, structure, named, ty_row}
+use Rattle.ir_tree.specs.Shape.{TyShape, ty_row}
 use Rattle.ir_tree.specs.ShapeOf.{ty_step, ty_shape}
 use Rattle.ir_tree.specs.Known.{ty_known_step, ty_known}
 use Rattle.ir_tree.specs.declared.types.Ty.{Ty}
@@ -14,9 +14,9 @@ use Rattle.ir_tree.specs.declared.types.Ty.TheFolds.{fold-roll-Ty, ind-Ty, map-T
 use Rattle.ir_tree.proofs.Table.{one_number}
 use Rattle.ir_tree.proofs.Grows.{and_left, and_right}
 use Rattle.ir_layout.specs.declared.sizes.Layout.{Layout}
-use Rattle.ir_layout.specs.Layout.{most_size, array_layout, structure_layout}
+use Rattle.ir_layout.specs.Layout.{array_layout}
 use Rattle.ir_layout.specs.Rules.{LaidBy, AreLaidBy}
-use Rattle.ir_layout.specs.Computed.{array_of, structure_from, named_at, layout_step, ty_layout}
+use Rattle.ir_layout.specs.Computed.{layout_step, ty_layout}
 use Rattle.ir_layout.specs.Tables.{InTable}
 use Rattle.ir_layout.proofs.Found.{within_gives, array_found, structure_found, structure_gives}
 
@@ -91,20 +91,23 @@ right_at names layouts fits (ty.Int bits) known l = (λ e. cc, λ is. cc)
 right_at names layouts fits ty.Ptr known l = (λ e. cc, λ is. cc)
 right_at names layouts fits ty.Void known l = (λ e. cc, λ none. absurd none)
 right_at names layouts fits (ty.Array count element) known l = (
-    λ e. let found = array_found count (ty_layout layouts element.value.0) l e in
-    (found.0, (element.value.1 known found.0).0 found.1, found.2, found.3),
-    λ has.
-    let one : ty_layout layouts element.value.0 ≡ Some has.0 = (element.value.1 known has.0).1 has.1 in
-    rw one (within_gives (array_layout count has.0) has.2 ∙ ap (λ (z : Layout). Some z) (sym has.3)))
+  λ e. let found = array_found count (ty_layout layouts element.value.0) l e in
+      (found.0, (element.value.1 known found.0).0 found.1, found.2, found.3),
+  λ has.
+      let one : ty_layout layouts element.value.0 ≡ Some has.0 = (element.value.1 known has.0).1 has.1 in
+      rw one (within_gives (array_layout count has.0) has.2 ∙ ap (λ (z : Layout). Some z) (sym has.3)),
+)
 right_at names layouts fits (ty.Struct v packed) known l = (
-    λ e. let found = structure_found packed 0 1 (map (ty_layout layouts) (map (λ e. e.0) v.items)) l e in
-    (found.0, row_found names layouts v.items known found.0 found.1, found.2, found.3),
-    λ has.
-    let all = row_gives names layouts v.items known has.0 has.1 in
-    rw all (structure_gives packed 0 1 has.0 has.2 ∙ ap (λ (z : Layout). Some z) (sym has.3)))
+  λ e. let found = structure_found packed 0 1 (map (ty_layout layouts) (map (λ e. e.0) v.items)) l e in
+      (found.0, row_found names layouts v.items known found.0 found.1, found.2, found.3),
+  λ has.
+      let all = row_gives names layouts v.items known has.0 has.1 in
+      rw all (structure_gives packed 0 1 has.0 has.2 ∙ ap (λ (z : Layout). Some z) (sym has.3)),
+)
 right_at names layouts fits (ty.Named id) known l = (
-    λ e. (id.0, refl, some_found (slice_get layouts id.0) l e),
-    λ has. ap (λ (o : Option (Option Layout)). unwrap_or o None) (at_number names layouts fits id.0 l (ltb-true id.0 (length names) known) has))
+  λ e. (id.0, refl, some_found (slice_get layouts id.0) l e),
+  λ has. ap (λ (o : Option (Option Layout)). unwrap_or o None) (at_number names layouts fits id.0 l (ltb-true id.0 (length names) known) has),
+)
 
 pub computed_right : (names : List (List ℕ)) (layouts : List (Option Layout)) → Fits names layouts → (t : Ty) → IsRight names layouts t
 computed_right names layouts fits = ind-Ty (IsRight names layouts) (λ x y is known l.
@@ -116,6 +119,7 @@ computed_right names layouts fits = ind-Ty (IsRight names layouts) (λ x y is kn
     is (right_at names layouts fits y) in
     let both = step here l in
     let computes = fold-roll-Ty (Option Layout) (layout_step layouts) x in
-    let shapes = fold-roll-Ty TyShape (ty_step names) x in
-    (λ e. subst (λ (z : TyShape). LaidBy (InTable names layouts) z l) (sym shapes) (both.0 (sym computes ∙ e)),
-    λ has. computes ∙ both.1 (subst (λ (z : TyShape). LaidBy (InTable names layouts) z l) shapes has)))
+    let shapes = fold-roll-Ty TyShape (ty_step names) x in (
+      λ e. subst (λ (z : TyShape). LaidBy (InTable names layouts) z l) (sym shapes) (both.0 (sym computes ∙ e)),
+      λ has. computes ∙ both.1 (subst (λ (z : TyShape). LaidBy (InTable names layouts) z l) shapes has),
+    ))

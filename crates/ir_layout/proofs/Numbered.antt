@@ -1,11 +1,10 @@
 -- The first named type with a name.
-use Rattle.std.proofs.Common.{◌≡◌, ℕ, suc, ◌+◌, ◌<◌, ◌≤◌, ◌⊎◌, inl, inr, Bool, true, false, List, [], ◌∷◌, length, Option, Some, None, refl, sym, ◌∙◌, ap, subst, arith, slice_get, drop, ◌==◌}
+use Rattle.std.proofs.Common.{◌≡◌, ℕ, suc, ◌+◌, ◌<◌, ◌≤◌, inl, inr, List, [], ◌∷◌, length, Option, Some, None, refl, sym, ◌∙◌, subst, arith, slice_get, drop}
 use Rattle.std.proofs.Math.ListN.{set, replicate}
 use Rattle.std.proofs.lemmas.Bool.Decides.{eqb_tells}
 use Rattle.std.proofs.lemmas.Option.{slice_get_within}
 use Rattle.std.proofs.lemmas.List.{length-set, length-replicate}
 use Rattle.std.proofs.Math.Seq.{drop-length}
-use Rattle.ir_tree.specs.declared.types.Ty.{Ty}
 use Rattle.ir_tree.specs.declared.module.NamedTy.{NamedTy}
 use Rattle.ir_layout.specs.Tables.{type_of_number, first_from, AreFirst}
 use Rattle.ir_layout.proofs.Slices.{get_set_same, get_set_other, get_replicate, drop_at}
@@ -20,11 +19,11 @@ first_found at [] id i e = cc
 first_found at (t ∷ ts) id i e =
     elim (eqb_tells t.name.0 id) [
       | inl h ↦
-        let here = some_place at i (rw h.0 at e) in
-        (0, t, omega (arith, here), refl, rw h.0 refl)
+          let here = some_place at i (rw h.0 at e) in
+          (0, t, omega (arith, here), refl, rw h.0 refl)
       | inr h ↦
-        let later = first_found (at + 1) ts id i (rw h.0 at e) in
-        (suc later.0, later.1, omega (arith, later.2), later.3, rw h.0 later.4)
+          let later = first_found (at + 1) ts id i (rw h.0 at e) in
+          (suc later.0, later.1, omega (arith, later.2), later.3, rw h.0 later.4)
     ]
 
 pub none_found : (at : ℕ) (ts : List NamedTy) (id : ℕ) → first_from at ts id ≡ None → type_of_number ts id ≡ None

@@ -11,6 +11,7 @@ SaysMore N M = (name : List ℕ) (l : Layout) → N name l → M name l
 
 mutual
   unfolding LaidBy AreLaidBy
+
   pub laid_more : (N M : List ℕ → Layout → Type 0) → SaysMore N M → (t : TyShape) (l : Layout) → LaidBy N t l → LaidBy M t l
   laid_more N M h (integer bits) l is = is
   laid_more N M h pointer l is = is
@@ -31,6 +32,7 @@ IsFunctional N = (name : List ℕ) (l k : Layout) → N name l → N name k → 
 
 mutual
   unfolding LaidBy AreLaidBy
+
   pub laid_once : (N : List ℕ → Layout → Type 0) → IsFunctional N → (t : TyShape) (l k : Layout) → LaidBy N t l → LaidBy N t k → l ≡ k
   laid_once N h (integer bits) l k is also = is ∙ sym also
   laid_once N h pointer l k is also = is ∙ sym also
@@ -88,6 +90,7 @@ NameHas ts name l = HasLayout ts (named name) l
 
 mutual
   unfolding LaidBy AreLaidBy
+
   pub laid_by_names : (ts : List NamedTyShape) (t : TyShape) (l : Layout) → LaidBy (NameHas ts) t l → HasLayout ts t l
   laid_by_names ts (integer bits) l is = (0, is)
   laid_by_names ts pointer l is = (0, is)

@@ -1,5 +1,5 @@
 -- The layout of a type as it is computed, where a table has the layouts of names by their numbers.
-use Rattle.std.specs.Prelude.{ℕ, ◌≤◌, Bool, nat_le, if◌then◌else◌, List, [], ◌∷◌, Option, Some, None, slice_get, unwrap_or}
+use Rattle.std.specs.Prelude.{ℕ, Bool, nat_le, if◌then◌else◌, List, [], ◌∷◌, Option, Some, None, slice_get, unwrap_or}
 use Rattle.ir_tree.specs.declared.types.Ty.{Ty}
 use Rattle.ir_tree.specs.declared.types.Ty.TheOpen as ty
 use Rattle.ir_tree.specs.declared.types.Ty.TheFolds.{fold-Ty}

@@ -3,7 +3,9 @@
 ghost use Rattle.std.specs.Prelude.{◌≡◌, map};
 ghost use Rattle.ir_layout.specs.Computed.{array_of, structure_from, named_at, ty_layout};
 
-use crate::sizes::{Layout, MOST_SIZE, array_layout, field_end, integer_layout, rounded_up, wider_align};
+use crate::sizes::{
+    Layout, MOST_SIZE, array_layout, field_end, integer_layout, rounded_up, wider_align,
+};
 use ir_tree::names::NameId;
 use ir_tree::types::Ty;
 

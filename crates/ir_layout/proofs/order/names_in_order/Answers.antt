@@ -1,4 +1,4 @@
-use Rattle.std.proofs.Common.{◌≡◌, ◌<◌, length, Some, true, false, refl, slice_get, arith, sym, ◌∙◌, ap, rules}
+use Rattle.std.proofs.Common.{true, false, refl, arith}
 use Rattle.std.specs.Prelude.{not}
 use Rattle.std.proofs.lemmas.Option.{slice_get_within}
 use Rattle.ir_layout.proofs.Slices.{count_set}
