@@ -10,7 +10,7 @@ use Rattle.std.proofs.lemmas.List.{length-set, length-replicate}
 use Rattle.std.proofs.lemmas.Option.{slice_get_within}
 use Rattle.std.proofs.lemmas.Slice.Eq.{bytes_eq-Decides}
 use Rattle.ir_tree.specs.NameTable.{text_of}
-use Rattle.ir_tree.specs.Shape.{TyShape, named}
+use Rattle.ir_tree.specs.Shape.{TyShape, named, ty_row}
 use Rattle.ir_tree.specs.ShapeOf.{ty_shape, named_ty_shape, module_shape}
 use Rattle.ir_tree.specs.Known.{ty_known, named_ty_known, module_known}
 use Rattle.ir_tree.specs.declared.types.Ty.{Ty}
@@ -19,7 +19,7 @@ use Rattle.ir_tree.specs.declared.module.Module.{Module}
 use Rattle.ir_tree.proofs.Table.{one_number}
 use Rattle.ir_tree.proofs.Grows.{and_left, and_right}
 use Rattle.ir_layout.specs.declared.sizes.Layout.{Layout}
-use Rattle.ir_layout.specs.Rules.{LaidBy, AreLaidBy, named_ty, HasLayout}
+use Rattle.ir_layout.specs.Rules.{LaidBy, AreLaidBy, named_ty, NameHasWithin, HasLayout}
 use Rattle.ir_layout.specs.Computed.{named_at, ty_layout}
 use Rattle.ir_layout.specs.Tables.{InTable, IsSoundTable, IsWholeTable, type_of_number, new_layout, with_layout, count_empty, AreStuck}
 use Rattle.ir_layout.proofs.Relations.{SaysMore, IsClosed, NameHas, name_has, one_layout, table_sound, table_complete}
@@ -265,3 +265,16 @@ whole_computed m known layouts w t names l = (
   λ has. (computed_right m.names layouts (fits_of m layouts w.is_sound) t names l).1
       (table_complete (module_shape m).types (InTable m.names layouts) (closed_if_whole m known layouts w) (ty_shape m.names t) l has),
 )
+
+-- and so for the types of a row
+pub row_computed : (m : Module) → module_known m ≡ true → (layouts : List (Option Layout)) → IsWholeTable m layouts → (d : ℕ) (ts : List Ty)
+    → list_all (ty_known (length m.names)) ts ≡ true → (ls : List Layout)
+    → AreLaidBy (NameHasWithin d (module_shape m).types) (ty_row (map (ty_shape m.names) ts)) ls → map (ty_layout layouts) ts ≡ map (λ f. Some f) ls
+unfolding LaidBy AreLaidBy
+row_computed m known layouts w d [] names [] have = refl
+row_computed m known layouts w d [] names (l ∷ ls) none = absurd none
+row_computed m known layouts w d (t ∷ ts) names [] none = absurd none
+row_computed m known layouts w d (t ∷ ts) names (l ∷ ls) (has, have) =
+    let head = (whole_computed m known layouts w t (and_left _ _ names) l).1 (d, has) in
+    ap (λ (o : Option Layout). o ∷ map (ty_layout layouts) ts) head
+    ∙ ap (λ (os : List (Option Layout)). Some l ∷ os) (row_computed m known layouts w d ts (and_right _ _ names) ls have)

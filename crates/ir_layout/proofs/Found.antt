@@ -41,7 +41,8 @@ next_grows align at =
       | inr h ↦ rw h.0 (up_grows align at (omega (arith, h.1)))
     ]
 
-start_grows : (packed : Bool) (at : ℕ) (field : Layout) → at ≤ field_start packed at field
+-- nor is a field begun before
+pub start_grows : (packed : Bool) (at : ℕ) (field : Layout) → at ≤ field_start packed at field
 start_grows true at field = omega arith
 start_grows false at field = next_grows field.align at
 

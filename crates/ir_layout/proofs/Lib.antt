@@ -6,3 +6,5 @@ pub mod Slices
 pub mod Numbered
 pub mod Entries
 pub mod Rounds
+pub mod Held
+pub mod Places

@@ -3,7 +3,7 @@ use Rattle.std.proofs.Common.{◌≡◌, ℕ, zero, suc, ◌≤◌, max, List, [
 use Rattle.ir_tree.specs.Shape.{TyShape, TyShapes, integer, pointer, void, array, structure, named, no_types, types, NamedTyShape}
 use Rattle.ir_layout.specs.declared.sizes.Layout.{Layout}
 use Rattle.ir_layout.specs.Layout.{array_layout, structure_layout}
-use Rattle.ir_layout.specs.Rules.{LaidBy, AreLaidBy, named_ty, NameHasWithin, HasLayout}
+use Rattle.ir_layout.specs.Rules.{LaidBy, AreLaidBy, named_ty, NameHasWithin, HasLayout, HaveLayouts}
 
 -- a relation says more than another
 abbrev pub SaysMore : (List ℕ → Layout → Type 0) → (List ℕ → Layout → Type 0) → Type 0
@@ -78,6 +78,12 @@ pub one_layout : (ts : List NamedTyShape) (t : TyShape) (l k : Layout) → HasLa
 one_layout ts t l k (d, has) (e, gives) =
     laid_once (NameHasWithin (max d e) ts) (within_once ts (max d e)) t l k
     (laid_more _ _ (within_more ts d (max d e) (omega arith)) t l has) (laid_more _ _ (within_more ts e (max d e) (omega arith)) t k gives)
+
+-- and so have the types of a row
+pub one_row : (ts : List NamedTyShape) (row : TyShapes) (ls ks : List Layout) → HaveLayouts ts row ls → HaveLayouts ts row ks → ls ≡ ks
+one_row ts row ls ks (d, have) (e, give) =
+    are_laid_once (NameHasWithin (max d e) ts) (within_once ts (max d e)) row ls ks
+    (are_laid_more _ _ (within_more ts d (max d e) (omega arith)) row ls have) (are_laid_more _ _ (within_more ts e (max d e) (omega arith)) row ks give)
 
 -- a name has the layout of the type that it stands for
 pub name_has : (ts : List NamedTyShape) (name : List ℕ) (t : TyShape) (l : Layout) → named_ty ts name ≡ Some t → HasLayout ts t l → HasLayout ts (named name) l

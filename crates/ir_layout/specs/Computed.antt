@@ -1,10 +1,10 @@
 -- The layout of a type as it is computed, where a table has the layouts of names by their numbers.
-use Rattle.std.specs.Prelude.{ℕ, Bool, nat_le, if◌then◌else◌, List, [], ◌∷◌, Option, Some, None, slice_get, unwrap_or}
+use Rattle.std.specs.Prelude.{ℕ, zero, suc, Bool, nat_le, if◌then◌else◌, List, [], ◌∷◌, Option, Some, None, slice_get, unwrap_or}
 use Rattle.ir_tree.specs.declared.types.Ty.{Ty}
 use Rattle.ir_tree.specs.declared.types.Ty.TheOpen as ty
 use Rattle.ir_tree.specs.declared.types.Ty.TheFolds.{fold-Ty}
 use Rattle.ir_layout.specs.declared.sizes.Layout.{Layout}
-use Rattle.ir_layout.specs.Layout.{most_size, integer_layout, pointer_layout, array_layout, field_end, wider_align, rounded_up}
+use Rattle.ir_layout.specs.Layout.{most_size, integer_layout, pointer_layout, array_layout, field_start, field_end, wider_align, rounded_up}
 
 -- the layout, unless its size is too great
 abbrev pub within_most : Layout → Option Layout
@@ -23,6 +23,15 @@ structure_from packed at align (Some field ∷ fields) =
     if nat_le (field_end packed at field) most_size
     then structure_from packed (field_end packed at field) (wider_align packed align field) fields
     else None
+
+-- where the field of a number begins in such a structure
+abbrev pub offset_from : Bool → ℕ → List (Option Layout) → ℕ → Option ℕ
+offset_from packed at [] k = None
+offset_from packed at (None ∷ fields) k = None
+offset_from packed at (Some field ∷ fields) zero =
+    if nat_le (field_end packed at field) most_size then Some (field_start packed at field) else None
+offset_from packed at (Some field ∷ fields) (suc k) =
+    if nat_le (field_end packed at field) most_size then offset_from packed (field_end packed at field) fields k else None
 
 -- the layout of the name of a number
 abbrev pub named_at : List (Option Layout) → ℕ → Option Layout

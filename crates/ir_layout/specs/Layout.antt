@@ -1,5 +1,5 @@
 -- Sizes, alignments and the places of fields, by numbers.
-use Rattle.std.specs.Prelude.{ℕ, zero, suc, ◌+◌, ◌-◌, ◌*◌, ◌/◌, ◌==◌, Bool, nat_le, max, if◌then◌else◌, List, [], ◌∷◌}
+use Rattle.std.specs.Prelude.{◌≡◌, ◌<◌, ◌≤◌, ℕ, zero, suc, ◌+◌, ◌-◌, ◌*◌, ◌/◌, ◌==◌, Bool, nat_le, max, if◌then◌else◌, List, [], ◌∷◌}
 use Rattle.ir_layout.specs.declared.sizes.Layout.{Layout}
 
 -- the greatest size of a type, in bytes
@@ -59,3 +59,14 @@ abbrev pub field_offset : Bool → ℕ → List Layout → ℕ → ℕ
 field_offset packed at [] k = at
 field_offset packed at (field ∷ fields) zero = field_start packed at field
 field_offset packed at (field ∷ fields) (suc k) = field_offset packed (field_end packed at field) fields k
+
+-- the first number is a multiple of the second
+abbrev pub IsMultiple : ℕ → ℕ → Type 0
+IsMultiple n unit = (times : ℕ) × (n ≡ times * unit)
+
+-- what holds of each layout of a type: the alignment is 1 to 8, and the size is a multiple of it and isn't too great
+pub record IsRegular (l : Layout) : Type 0 where
+  pub aligned : 0 < l.align
+  pub align_small : l.align ≤ 8
+  pub size_small : l.size ≤ most_size
+  pub in_units : IsMultiple l.size l.align

@@ -1,5 +1,5 @@
 -- Which layout a type has, where types have names.
-use Rattle.std.specs.Prelude.{◌≡◌, ℕ, zero, suc, ◌*◌, ◌≤◌, if◌then◌else◌, List, [], ◌∷◌, Option, Some, None}
+use Rattle.std.specs.Prelude.{◌≡◌, ℕ, zero, suc, ◌*◌, ◌≤◌, ◌⊎◌, if◌then◌else◌, List, [], ◌∷◌, Option, Some, None}
 use Rattle.std.specs.Str.{bytes_eq}
 use Rattle.ir_tree.specs.Shape.{TyShape, TyShapes, integer, pointer, void, array, structure, named, no_types, types, NamedTyShape}
 use Rattle.ir_layout.specs.declared.sizes.Layout.{Layout}
@@ -42,3 +42,26 @@ HasLayout ts t l = (depth : ℕ) × LaidBy (NameHasWithin depth ts) t l
 -- a type has a layout
 abbrev pub IsSized : List NamedTyShape → TyShape → Type 0
 IsSized ts t = (l : Layout) × HasLayout ts t l
+
+-- the types of a row have these layouts
+abbrev pub HaveLayouts : List NamedTyShape → TyShapes → List Layout → Type 0
+HaveLayouts ts row ls = (depth : ℕ) × AreLaidBy (NameHasWithin depth ts) row ls
+
+-- a type holds a named type by value
+unfoldable mutual
+  pub HoldsName : TyShape → List ℕ → Type 0
+  HoldsName (integer bits) name = ⊥
+  HoldsName pointer name = ⊥
+  HoldsName void name = ⊥
+  HoldsName (array count t) name = HoldsName t name
+  HoldsName (structure row packed) name = RowHoldsName row name
+  HoldsName (named other) name = other ≡ name
+
+  pub RowHoldsName : TyShapes → List ℕ → Type 0
+  RowHoldsName no_types name = ⊥
+  RowHoldsName (types t row) name = HoldsName t name ⊎ RowHoldsName row name
+
+-- a named type holds another by value, directly or through others
+pub data HoldsInside (ts : List NamedTyShape) : List ℕ → List ℕ → Type 0 where
+  directly : {outer inner : List ℕ} (t : TyShape) → named_ty ts outer ≡ Some t → HoldsName t inner → HoldsInside ts outer inner
+  through : {outer middle inner : List ℕ} → HoldsInside ts outer middle → HoldsInside ts middle inner → HoldsInside ts outer inner

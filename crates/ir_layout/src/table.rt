@@ -1,17 +1,20 @@
 //! The layouts of the named types of a module.
 
-ghost use Rattle.std.specs.Prelude.{◌≡◌, ◌↔◌, ◌<◌, length, true, Some, IfOk, is_some};
+ghost use Rattle.std.specs.Prelude.{◌≡◌, ◌↔◌, ◌<◌, ◌≤◌, List, length, map, true, Some, IfOk, is_some};
+ghost use Rattle.std.specs.List.{list_all};
 ghost use Rattle.std.specs.Bool.{OnTrue, OnFalse};
 ghost use Rattle.ir_tree.specs.Known.{module_known, ty_known};
+ghost use Rattle.ir_tree.specs.Shape.{ty_row};
 ghost use Rattle.ir_tree.specs.ShapeOf.{module_shape, ty_shape};
 ghost use Rattle.ir_tree.specs.declared.module.Module.{Module};
 ghost use Rattle.ir_layout.specs.declared.sizes.Layout.{Layout};
-ghost use Rattle.ir_layout.specs.Rules.{HasLayout};
+ghost use Rattle.ir_layout.specs.Layout.{most_size, structure_layout, field_offset};
+ghost use Rattle.ir_layout.specs.Rules.{HasLayout, HaveLayouts};
 ghost use Rattle.ir_layout.specs.Tables.{AreFirst, AreStuck, IsSoundTable, IsWholeTable, new_layout, with_layout, count_empty};
 
 use crate::order::{first_types, names_in_order, type_of};
 use crate::sizes::Layout;
-use crate::types::layout_in;
+use crate::types::{layout_in, offset_in};
 use ir_tree::module::{Module, NamedTy};
 use ir_tree::types::Ty;
 use std::alloc::{AllocError, Global};
@@ -54,6 +57,17 @@ impl Layouts {
             (result ≡ Some l) ↔ HasLayout (module_shape m).types (ty_shape m.names ty.now) l }
     {
         layout_in(&self.of_name, ty)
+    }
+
+    /// Returns where the field of a number begins in a structure that has a layout.
+    pub fn offset_of(&self, fields: &[Ty], packed: bool, index: usize) -> Option<u64>
+        ensures { (m : Module) → module_known m ≡ true → IsWholeTable m self.now →
+            list_all (ty_known (length m.names)) fields.now ≡ true → (ls : List Layout) →
+            HaveLayouts (module_shape m).types (ty_row (map (ty_shape m.names) fields.now)) ls →
+            (structure_layout packed ls).size ≤ most_size → index < length ls →
+            result ≡ Some (field_offset packed 0 ls index) }
+    {
+        offset_in(&self.of_name, fields, packed, index)
     }
 }
 

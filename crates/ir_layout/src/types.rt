@@ -1,10 +1,10 @@
 //! The layout of a type, by a table of the layouts of names.
 
 ghost use Rattle.std.specs.Prelude.{◌≡◌, map};
-ghost use Rattle.ir_layout.specs.Computed.{array_of, structure_from, named_at, ty_layout};
+ghost use Rattle.ir_layout.specs.Computed.{array_of, structure_from, offset_from, named_at, ty_layout};
 
 use crate::sizes::{
-    Layout, MOST_SIZE, array_layout, field_end, integer_layout, rounded_up, wider_align,
+    Layout, MOST_SIZE, array_layout, field_end, field_start, integer_layout, rounded_up, wider_align,
 };
 use ir_tree::names::NameId;
 use ir_tree::types::Ty;
@@ -61,4 +61,31 @@ fn structure_in(layouts: &[Option<Layout>], fields: &[Ty], packed: bool) -> Opti
         align = wider_align(packed, align, field);
     }
     rounded_up(align, at)
+}
+
+/// Returns where the field of a number begins in a structure of these fields, if those up to it have
+/// layouts and end early enough.
+pub fn offset_in(
+    layouts: &[Option<Layout>],
+    fields: &[Ty],
+    packed: bool,
+    index: usize,
+) -> Option<u64>
+    ensures { result ≡ offset_from packed 0 (map (ty_layout layouts.now) fields.now) index }
+{
+    let mut at: u128 = 0;
+    let mut left = index;
+    for field in fields {
+        let field = layout_in(layouts, field)?;
+        let start = field_start(packed, at, field);
+        at = field_end(packed, at, field);
+        if at > MOST_SIZE as u128 {
+            return None;
+        }
+        if left == 0 {
+            return Some(start as u64);
+        }
+        left -= 1;
+    }
+    None
 }
