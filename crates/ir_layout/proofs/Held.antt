@@ -1,11 +1,12 @@
 -- A type has a layout only where what it holds has one, so none has that holds itself.
-use Rattle.std.proofs.Common.{◌≡◌, ℕ, zero, suc, ◌<◌, ◌≤◌, ◌⊎◌, inl, inr, List, [], ◌∷◌, Some, refl, sym, ◌∙◌, subst, arith}
+use Rattle.std.proofs.Common.{◌≡◌, ℕ, zero, suc, ◌<◌, inl, inr, List, [], ◌∷◌, Some, sym, ◌∙◌, subst, arith}
 use Rattle.ir_tree.specs.Shape.{TyShape, TyShapes, integer, pointer, void, array, structure, named, no_types, types, NamedTyShape}
 use Rattle.ir_layout.specs.declared.sizes.Layout.{Layout}
-use Rattle.ir_layout.specs.Rules.{LaidBy, AreLaidBy, named_ty, NameHasWithin, HasLayout, IsSized, HoldsName, RowHoldsName, HoldsInside, directly, through}
+use Rattle.ir_layout.specs.Rules.{LaidBy, AreLaidBy, NameHasWithin, IsSized, HoldsName, RowHoldsName, HoldsInside, directly, through}
 
 mutual
   unfolding LaidBy AreLaidBy HoldsName RowHoldsName
+
   held_laid : (N : List ℕ → Layout → Type 0) (t : TyShape) (l : Layout) (name : List ℕ) → LaidBy N t l → HoldsName t name → (k : Layout) × N name k
   held_laid N (integer bits) l name has none = absurd none
   held_laid N pointer l name has none = absurd none

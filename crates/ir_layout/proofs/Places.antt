@@ -1,12 +1,12 @@
 -- Where the fields of a structure lie, and what holds of each layout.
-use Rattle.std.proofs.Common.{◌≡◌, ℕ, zero, suc, ◌+◌, ◌-◌, ◌*◌, ◌/◌, ◌<◌, ◌≤◌, max, ◌⊎◌, inl, inr, Bool, true, false, List, [], ◌∷◌, length, map, Option, Some, None, refl, sym, ◌∙◌, ap, subst, arith, slice_get, nat_le, if◌then◌else◌, mul_assoc, drop, get_or}
+use Rattle.std.proofs.Common.{◌≡◌, ℕ, zero, suc, ◌+◌, ◌-◌, ◌*◌, ◌/◌, ◌<◌, ◌≤◌, max, inl, inr, Bool, true, false, List, [], ◌∷◌, length, map, Option, Some, refl, sym, ◌∙◌, ap, subst, arith, slice_get, nat_le, if◌then◌else◌, mul_assoc, drop, get_or}
 use Rattle.std.proofs.lemmas.Option.{slice_get-get_or}
 use Rattle.ir_tree.specs.declared.types.Ty.{Ty}
 use Rattle.std.proofs.lemmas.Bool.{le-leb}
 use Rattle.std.proofs.lemmas.Bool.Decides.{eqb_tells}
 use Rattle.ir_tree.specs.Shape.{TyShape, TyShapes, integer, pointer, void, array, structure, named, no_types, types, NamedTyShape}
 use Rattle.ir_layout.specs.declared.sizes.Layout.{Layout}
-use Rattle.ir_layout.specs.Layout.{most_size, next_multiple, integer_size, field_start, field_end, fields_end, fields_align, wider_align, structure_layout, field_offset, IsMultiple, IsRegular}
+use Rattle.ir_layout.specs.Layout.{most_size, next_multiple, integer_size, field_end, fields_end, fields_align, structure_layout, field_offset, IsMultiple, IsRegular}
 use Rattle.ir_layout.specs.Rules.{LaidBy, AreLaidBy, NameHasWithin, HasLayout, HaveLayouts}
 use Rattle.ir_layout.specs.Computed.{offset_from, ty_layout}
 use Rattle.ir_layout.proofs.Slices.{drop_at}
@@ -89,7 +89,7 @@ offset_step layouts packed at end ts i d field left within laid is small more =
     let past = offset_past packed at field (map (ty_layout layouts) (drop (i + 1) ts)) left low (omega (arith, more)) in
     let cut : drop i ts ≡ get_or ts i d ∷ drop (i + 1) ts = drop_at ts i (get_or ts i d) (slice_get-get_or ts i d within) in
     let head : map (ty_layout layouts) (drop i ts) ≡ Some field ∷ map (ty_layout layouts) (drop (i + 1) ts) =
-      ap (map (ty_layout layouts)) cut ∙ ap (λ (o : Option Layout). o ∷ map (ty_layout layouts) (drop (i + 1) ts)) laid in
+    ap (map (ty_layout layouts)) cut ∙ ap (λ (o : Option Layout). o ∷ map (ty_layout layouts) (drop (i + 1) ts)) laid in
     ap (λ (n : ℕ). offset_from packed n (map (ty_layout layouts) (drop (i + 1) ts)) (left - 1)) is ∙ sym past
     ∙ ap (λ (os : List (Option Layout)). offset_from packed at os left) (sym head)
 
@@ -121,6 +121,7 @@ GivesRegular N = (name : List ℕ) (l : Layout) → N name l → IsRegular l
 
 mutual
   unfolding LaidBy AreLaidBy
+
   regular_laid : (N : List ℕ → Layout → Type 0) → GivesRegular N → (t : TyShape) (l : Layout) → LaidBy N t l → IsRegular l
   regular_laid N h (integer bits) l is =
       let both = integer_regular bits in

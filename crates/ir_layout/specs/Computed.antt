@@ -37,6 +37,7 @@ offset_from packed at (Some field ∷ fields) (suc k) =
 abbrev pub named_at : List (Option Layout) → ℕ → Option Layout
 named_at layouts id = unwrap_or (slice_get layouts id) None
 
+-- a type, by the layouts of its parts
 abbrev pub layout_step : List (Option Layout) → ty.Ty-F (Option Layout) → Option Layout
 layout_step layouts (ty.Int bits) = Some (integer_layout bits)
 layout_step layouts ty.Ptr = Some pointer_layout

@@ -10,13 +10,15 @@ most_size = 1073741824
 abbrev pub next_multiple : ℕ → ℕ → ℕ
 next_multiple align at = if align == 0 then at else (at + (align - 1)) / align * align
 
--- the size of an integer of so many bits, and its alignment
+-- the size of an integer of so many bits
 abbrev pub integer_size : ℕ → ℕ
 integer_size bits = if nat_le bits 8 then 1 else (if nat_le bits 16 then 2 else (if nat_le bits 32 then 4 else 8))
 
+-- an integer of so many bits: its alignment is its size
 abbrev pub integer_layout : ℕ → Layout
 integer_layout bits = record { size = integer_size bits; align = integer_size bits }
 
+-- an address
 abbrev pub pointer_layout : Layout
 pointer_layout = record { size = 8; align = 8 }
 
@@ -24,11 +26,11 @@ pointer_layout = record { size = 8; align = 8 }
 abbrev pub array_layout : ℕ → Layout → Layout
 array_layout count element = record { size = count * element.size; align = element.align }
 
--- where a field begins that comes after what ends at an offset: there where the structure is packed, else at the next multiple of its
--- alignment
+-- where a field begins, after what ends at an offset: right there in a packed structure, else at the next multiple of its alignment
 abbrev pub field_start : Bool → ℕ → Layout → ℕ
 field_start packed at field = if packed then at else next_multiple field.align at
 
+-- where it ends
 abbrev pub field_end : Bool → ℕ → Layout → ℕ
 field_end packed at field = field_start packed at field + field.size
 

@@ -10,6 +10,8 @@ mod sizes;
 mod table;
 mod types;
 
-pub use laws::{fields_lie_apart, layouts_are_regular, types_have_one_layout, what_types_hold_has_a_layout};
+pub use laws::{
+    fields_lie_apart, layouts_are_regular, types_have_one_layout, what_types_hold_has_a_layout,
+};
 pub use sizes::{Layout, MOST_SIZE};
 pub use table::Layouts;

@@ -18,9 +18,7 @@ pub fn first_types(
     ensures first { IfOk result (λ first. AreFirst types.now first.items) }
 {
     let mut first = vec![in alloc; None; count]?;
-    let mut at = types.len();
-    while at > 0 {
-        at -= 1;
+    for at in (0..types.len()).rev() {
         let id = types[at].name.0 as usize;
         if id < count {
             first[id] = Some(at);
@@ -68,6 +66,23 @@ fn push_held(ty: &Ty, to: &mut Vec<Step>) -> Result<(), AllocError> {
     }
 }
 
+/// Appends a step out of a name, and then steps into the names that its type holds, which are taken before it.
+fn push_inside(
+    types: &[NamedTy],
+    first: &[Option<usize>],
+    id: usize,
+    to: &mut Vec<Step>,
+) -> Result<(), AllocError>
+    requires first { AreFirst types.now first.now }
+    requires within { id < length first.now }
+{
+    to.push(Step::Leave(id))?;
+    match type_of(types, first, id) {
+        Some(ty) => push_held(ty, to),
+        None => Ok(()),
+    }
+}
+
 /// Returns the next name that wasn't seen yet. Those that are left meanwhile go into the order.
 fn next_unseen(
     steps: &mut Vec<Step>,
@@ -105,10 +120,7 @@ pub fn names_in_order(
     }
     while let Some(id) = next_unseen(&mut steps, &seen, &mut order)? {
         seen[id] = true;
-        steps.push(Step::Leave(id))?;
-        if let Some(ty) = type_of(types, first, id) {
-            push_held(ty, &mut steps)?;
-        }
+        push_inside(types, first, id, &mut steps)?;
     }
     Ok(order)
 }

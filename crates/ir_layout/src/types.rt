@@ -4,7 +4,8 @@ ghost use Rattle.std.specs.Prelude.{◌≡◌, map};
 ghost use Rattle.ir_layout.specs.Computed.{array_of, structure_from, offset_from, named_at, ty_layout};
 
 use crate::sizes::{
-    Layout, MOST_SIZE, array_layout, field_end, field_start, integer_layout, rounded_up, wider_align,
+    Layout, MOST_SIZE, array_layout, field_end, field_start, integer_layout, rounded_up,
+    wider_align,
 };
 use ir_tree::names::NameId;
 use ir_tree::types::Ty;

@@ -4,6 +4,3 @@ use Rattle.ir_layout.proofs.order.first_types.Given as goal
 
 abbrev pub invariant-loop-at : goal.invariant-loop-at
 invariant-loop-at l = (l.at ≤ length l.types) × (length l.first.items ≡ l.count) × AreFirstFrom l.at l.types l.first.items
-
-abbrev pub decreases-loop-at : goal.decreases-loop-at
-decreases-loop-at l = l.at

@@ -9,15 +9,10 @@ index_mut-requires c =
     let unseen = rw c.deref.ensures.value at (rw c.in-Some.is at c.in_ok-id.ensures) in
     omega (arith, slice_get_within c.loop-steps.seen.items c.in-Some.id false unseen)
 
-pub type_of-requires-clause-within : goal.type_of-requires-clause-within
-type_of-requires-clause-within c =
+pub push_inside-requires-clause-within : goal.push_inside-requires-clause-within
+push_inside-requires-clause-within c =
     let unseen = rw c.deref.ensures.value at (rw c.in-Some.is at c.in_ok-id.ensures) in
     omega (arith, slice_get_within c.loop-steps.seen.items c.in-Some.id false unseen)
-
-pub loop-steps-smaller-in-Continue-branch-6 : goal.loop-steps-smaller-in-Continue-branch-6
-loop-steps-smaller-in-Continue-branch-6 c =
-    let unseen = rw c.deref.ensures.value at (rw c.in-Some.is at c.in_ok-id.ensures) in
-    omega (arith, count_set not c.loop-steps.seen.items c.in-Some.id false true unseen refl refl)
 
 pub loop-steps-smaller : goal.loop-steps-smaller
 loop-steps-smaller c =
