@@ -3,8 +3,7 @@
 ghost use Rattle.std.specs.Prelude.{◌≡◌, ◌<◌, ◌≤◌, length, Some, false, slice_get, IfSome, IfOk, option_copied};
 ghost use Rattle.ir_layout.specs.Tables.{type_of_number, AreFirst};
 
-use ir_tree::module::{Module, NamedTy};
-use ir_tree::names::NameId;
+use ir_tree::module::NamedTy;
 use ir_tree::types::Ty;
 use std::alloc::{AllocError, Global};
 

@@ -82,7 +82,8 @@ fn enter(
     requires long { length layouts.old ≡ length first.now }
     requires within { id < length layouts.old }
     ensures entered { result ≡ is_some (new_layout types.now layouts.old id) }
-    ensures layouts { layouts.new ≡ with_layout layouts.old id (new_layout types.now layouts.old id) }
+    ensures layouts { layouts.new
+        ≡ with_layout layouts.old id (new_layout types.now layouts.old id) }
 {
     if layouts[id].is_some() {
         return false;
