@@ -1,5 +1,5 @@
 -- A table of layouts stays sound as it fills, and is whole when nothing more can be entered.
-use Rattle.std.proofs.Common.{◌≡◌, ℕ, ◌+◌, ◌<◌, inl, inr, Bool, true, false, List, [], ◌∷◌, length, map, Option, Some, None, refl, sym, ◌∙◌, ap, subst, arith, zero, suc, slice_get, ◌==◌, ltb-true}
+use Rattle.std.proofs.Common.{◌≡◌, ℕ, ◌+◌, ◌<◌, inl, inr, Bool, true, false, List, [], ◌∷◌, length, map, Option, Some, None, refl, sym, ◌∙◌, ap, subst, arith, zero, suc, take, slice_get, ◌==◌, ltb-true}
 use Rattle.std.proofs.Math.ListN.{set, replicate}
 use Rattle.std.specs.Prelude.{is_some, is_none, if◌then◌else◌, ◌↔◌}
 use Rattle.std.specs.Option.{option_and_then}
@@ -17,12 +17,12 @@ use Rattle.ir_tree.specs.declared.types.Ty.{Ty}
 use Rattle.ir_tree.specs.declared.module.NamedTy.{NamedTy}
 use Rattle.ir_tree.specs.declared.module.Module.{Module}
 use Rattle.ir_tree.proofs.Table.{one_number}
-use Rattle.ir_tree.proofs.Grows.{and_left, and_right}
+use Rattle.ir_tree.proofs.Grows.{and_left, and_right, and_both}
 use Rattle.ir_layout.specs.declared.sizes.Layout.{Layout}
-use Rattle.ir_layout.specs.Rules.{LaidBy, AreLaidBy, named_ty, NameHasWithin, HasLayout}
+use Rattle.ir_layout.specs.Rules.{LaidBy, AreLaidBy, named_ty, NameHasWithin, HasLayout, HaveLayouts}
 use Rattle.ir_layout.specs.Computed.{named_at, ty_layout}
 use Rattle.ir_layout.specs.Tables.{InTable, IsSoundTable, IsWholeTable, type_of_number, new_layout, with_layout, count_empty, AreStuck}
-use Rattle.ir_layout.proofs.Relations.{SaysMore, IsClosed, NameHas, name_has, one_layout, table_sound, table_complete}
+use Rattle.ir_layout.proofs.Relations.{are_laid_more, are_laid_by_names, SaysMore, IsClosed, NameHas, name_has, one_layout, table_sound, table_complete}
 use Rattle.ir_layout.proofs.Laid.{Fits, some_found, text_at, at_number, computed_right}
 use Rattle.ir_layout.proofs.Slices.{get_set_same, get_set_other, get_replicate, count_set}
 
@@ -278,3 +278,28 @@ row_computed m known layouts w d (t ∷ ts) names (l ∷ ls) (has, have) =
     let head = (whole_computed m known layouts w t (and_left _ _ names) l).1 (d, has) in
     ap (λ (o : Option Layout). o ∷ map (ty_layout layouts) ts) head
     ∙ ap (λ (os : List (Option Layout)). Some l ∷ os) (row_computed m known layouts w d ts (and_right _ _ names) ls have)
+
+in_table_row : (m : Module) (layouts : List (Option Layout)) → IsSoundTable m layouts → (ts : List Ty) → list_all (ty_known (length m.names)) ts ≡ true
+    → (ls : List Layout) → map (ty_layout layouts) ts ≡ map (λ f. Some f) ls → AreLaidBy (InTable m.names layouts) (ty_row (map (ty_shape m.names) ts)) ls
+unfolding LaidBy AreLaidBy
+in_table_row m layouts s [] names [] e = tt
+in_table_row m layouts s [] names (l ∷ ls) e = cc
+in_table_row m layouts s (t ∷ ts) names [] e = cc
+in_table_row m layouts s (t ∷ ts) names (l ∷ ls) e =
+    let head : ty_layout layouts t ≡ Some l = cc in
+    let rest : map (ty_layout layouts) ts ≡ map (λ f. Some f) ls = cc in
+    ((computed_right m.names layouts (fits_of m layouts s) t (and_left _ _ names) l).0 head, in_table_row m layouts s ts (and_right _ _ names) ls rest)
+
+-- the layouts that are computed of the types of a row are theirs
+pub row_sound : (m : Module) (layouts : List (Option Layout)) → IsSoundTable m layouts → (ts : List Ty) → list_all (ty_known (length m.names)) ts ≡ true
+    → (ls : List Layout) → map (ty_layout layouts) ts ≡ map (λ f. Some f) ls → HaveLayouts (module_shape m).types (ty_row (map (ty_shape m.names) ts)) ls
+row_sound m layouts s ts names ls e =
+    are_laid_by_names (module_shape m).types (ty_row (map (ty_shape m.names) ts)) ls
+    (are_laid_more (InTable m.names layouts) (NameHas (module_shape m).types) (table_says m layouts s) (ty_row (map (ty_shape m.names) ts)) ls
+    (in_table_row m layouts s ts names ls e))
+
+-- what holds of all holds of the first ones
+pub take_known : (n k : ℕ) (ts : List Ty) → list_all (ty_known n) ts ≡ true → list_all (ty_known n) (take k ts) ≡ true
+take_known n zero ts names = refl
+take_known n (suc k) [] names = refl
+take_known n (suc k) (t ∷ ts) names = and_both (and_left _ _ names) (take_known n k ts (and_right _ _ names))

@@ -1,12 +1,12 @@
 -- Where the fields of a structure lie, and what holds of each layout.
-use Rattle.std.proofs.Common.{◌≡◌, ℕ, zero, suc, ◌+◌, ◌-◌, ◌*◌, ◌/◌, ◌<◌, ◌≤◌, max, inl, inr, Bool, true, false, List, [], ◌∷◌, length, map, Option, Some, refl, sym, ◌∙◌, ap, subst, arith, slice_get, nat_le, if◌then◌else◌, mul_assoc, drop, get_or}
+use Rattle.std.proofs.Common.{◌≡◌, ℕ, zero, suc, ◌+◌, ◌-◌, ◌*◌, ◌/◌, ◌<◌, ◌≤◌, max, inl, inr, Bool, true, false, List, [], ◌∷◌, length, map, Option, Some, None, refl, sym, ◌∙◌, ap, subst, arith, slice_get, nat_le, if◌then◌else◌, mul_assoc, drop, take, get_or}
 use Rattle.std.proofs.lemmas.Option.{slice_get-get_or}
 use Rattle.ir_tree.specs.declared.types.Ty.{Ty}
 use Rattle.std.proofs.lemmas.Bool.{le-leb}
 use Rattle.std.proofs.lemmas.Bool.Decides.{eqb_tells}
 use Rattle.ir_tree.specs.Shape.{TyShape, TyShapes, integer, pointer, void, array, structure, named, no_types, types, NamedTyShape}
 use Rattle.ir_layout.specs.declared.sizes.Layout.{Layout}
-use Rattle.ir_layout.specs.Layout.{most_size, next_multiple, integer_size, field_end, fields_end, fields_align, structure_layout, field_offset, IsMultiple, IsRegular}
+use Rattle.ir_layout.specs.Layout.{most_size, next_multiple, integer_size, field_start, field_end, fields_end, fields_align, structure_layout, field_offset, IsMultiple, IsRegular}
 use Rattle.ir_layout.specs.Rules.{LaidBy, AreLaidBy, NameHasWithin, HasLayout, HaveLayouts}
 use Rattle.ir_layout.specs.Computed.{offset_from, ty_layout}
 use Rattle.ir_layout.proofs.Slices.{drop_at}
@@ -71,6 +71,26 @@ offset_gives packed at (f ∷ fields) zero small within =
 offset_gives packed at (f ∷ fields) (suc k) small within =
     let low : field_end packed at f ≤ most_size = omega (arith, small, end_grows packed (field_end packed at f) fields) in
     rw (le-leb (field_end packed at f) most_size low) (offset_gives packed (field_end packed at f) fields k small (omega arith))
+
+if_some : (b : Bool) (o : Option ℕ) (n : ℕ) → (if b then o else None) ≡ Some n → o ≡ Some n
+if_some true o n e = e
+if_some false o n e = cc
+
+some_number : (a b : ℕ) → ◌≡◌ {A = Option ℕ} (Some a) (Some b) → a ≡ b
+some_number a b e = cc
+
+-- a computed offset is that of the field that comes after those before it
+pub offset_found : (packed : Bool) (at : ℕ) (os : List (Option Layout)) (k n : ℕ) → offset_from packed at os k ≡ Some n
+    → (ls : List Layout) × (take (suc k) os ≡ map (λ f. Some f) ls) × (n ≡ field_offset packed at ls k)
+offset_found packed at [] k n e = cc
+offset_found packed at (None ∷ os) k n e = cc
+offset_found packed at (Some f ∷ os) zero n e =
+    let is = if_some (nat_le (field_end packed at f) most_size) (Some (field_start packed at f)) n e in
+    (f ∷ [], refl, sym (some_number (field_start packed at f) n is))
+offset_found packed at (Some f ∷ os) (suc k) n e =
+    let later = offset_found packed (field_end packed at f) os k n
+    (if_some (nat_le (field_end packed at f) most_size) (offset_from packed (field_end packed at f) os k) n e) in
+    (f ∷ later.0, ap (λ (z : List (Option Layout)). Some f ∷ z) later.1, later.2)
 
 -- past a field that isn't the one
 pub offset_past : (packed : Bool) (at : ℕ) (f : Layout) (os : List (Option Layout)) (k : ℕ) → field_end packed at f ≤ most_size → 0 < k

@@ -1,6 +1,6 @@
 //! The layouts of the named types of a module.
 
-ghost use Rattle.std.specs.Prelude.{◌≡◌, ◌↔◌, ◌<◌, ◌≤◌, List, length, map, true, Some, IfOk, is_some};
+ghost use Rattle.std.specs.Prelude.{◌≡◌, ◌↔◌, ◌+◌, ◌<◌, ◌≤◌, List, ℕ, length, map, take, true, Some, IfOk, is_some};
 ghost use Rattle.std.specs.List.{list_all};
 ghost use Rattle.std.specs.Bool.{OnTrue, OnFalse};
 ghost use Rattle.ir_tree.specs.Known.{module_known, ty_known};
@@ -59,9 +59,14 @@ impl Layouts {
         layout_in(&self.of_name, ty)
     }
 
-    /// Returns where the field of a number begins in a structure that has a layout.
+    /// Returns where the field of a number begins in a structure of these fields, or `None` where the
+    /// fields up to it have no layouts or are too many. Where the structure has a layout, so has each field.
     pub fn offset_of(&self, fields: &[Ty], packed: bool, index: usize) -> Option<u64>
-        ensures { (m : Module) → module_known m ≡ true → IsWholeTable m self.now →
+        ensures found { (m : Module) → module_known m ≡ true → IsWholeTable m self.now →
+            list_all (ty_known (length m.names)) fields.now ≡ true → (at : ℕ) → result ≡ Some at →
+            (ls : List Layout) × (at ≡ field_offset packed 0 ls index) × HaveLayouts
+            (module_shape m).types (ty_row (map (ty_shape m.names) (take (index + 1) fields.now))) ls }
+        ensures all { (m : Module) → module_known m ≡ true → IsWholeTable m self.now →
             list_all (ty_known (length m.names)) fields.now ≡ true → (ls : List Layout) →
             HaveLayouts (module_shape m).types (ty_row (map (ty_shape m.names) fields.now)) ls →
             (structure_layout packed ls).size ≤ most_size → index < length ls →
