@@ -8,3 +8,4 @@ pub mod Entries
 pub mod Rounds
 pub mod Held
 pub mod Places
+pub mod Composed

@@ -7,7 +7,7 @@ use Rattle.std.proofs.lemmas.Bool.Decides.{eqb_tells}
 use Rattle.ir_tree.specs.Shape.{TyShape, TyShapes, integer, pointer, void, array, structure, named, no_types, types, NamedTyShape}
 use Rattle.ir_layout.specs.declared.sizes.Layout.{Layout}
 use Rattle.ir_layout.specs.Layout.{most_size, next_multiple, integer_size, field_start, field_end, fields_end, fields_align, structure_layout, field_offset, IsMultiple, IsRegular}
-use Rattle.ir_layout.specs.Rules.{LaidBy, AreLaidBy, NameHasWithin, HasLayout, HaveLayouts}
+use Rattle.ir_layout.specs.Rules.{LaidBy, AreLaidBy, NameHasWithin, HasLayout}
 use Rattle.ir_layout.specs.Computed.{offset_from, ty_layout}
 use Rattle.ir_layout.proofs.Slices.{drop_at}
 use Rattle.ir_layout.proofs.Found.{next_grows, start_grows, end_grows}
@@ -180,9 +180,3 @@ within_regular ts (suc d) name l (t, stands, has) = regular_laid (NameHasWithin 
 
 pub layout_regular : (ts : List NamedTyShape) (t : TyShape) (l : Layout) → HasLayout ts t l → IsRegular l
 layout_regular ts t l (depth, has) = regular_laid (NameHasWithin depth ts) (within_regular ts depth) t l has
-
--- the layout of a structure comes of those of its fields
-pub structure_parts : (ts : List NamedTyShape) (row : TyShapes) (packed : Bool) (l : Layout) → HasLayout ts (structure row packed) l
-    → (ls : List Layout) × HaveLayouts ts row ls × ((structure_layout packed ls).size ≤ most_size) × (l ≡ structure_layout packed ls)
-unfolding LaidBy AreLaidBy
-structure_parts ts row packed l (depth, (fields, have, small, is)) = (fields, (depth, have), small, is)

@@ -1,10 +1,10 @@
 //! The laws of layouts.
 
-ghost use Rattle.std.specs.Prelude.{◌≡◌, ◌+◌, ◌<◌, ◌≤◌, List, ℕ, Bool, false, Some, length, slice_get};
-ghost use Rattle.ir_tree.specs.Shape.{TyShape, TyShapes, NamedTyShape, named, structure};
+ghost use Rattle.std.specs.Prelude.{◌≡◌, ◌↔◌, ◌+◌, ◌*◌, ◌<◌, ◌≤◌, List, ◌∷◌, ℕ, Bool, false, Some, length, slice_get};
+ghost use Rattle.ir_tree.specs.Shape.{TyShape, TyShapes, NamedTyShape, array, structure, types, named};
 ghost use Rattle.ir_layout.specs.declared.sizes.Layout.{Layout};
-ghost use Rattle.ir_layout.specs.Layout.{structure_layout, field_offset, most_size, IsMultiple, IsRegular};
-ghost use Rattle.ir_layout.specs.Rules.{HasLayout, HaveLayouts, HoldsInside, HoldsName, IsSized};
+ghost use Rattle.ir_layout.specs.Layout.{array_layout, structure_layout, field_offset, most_size, IsMultiple, IsRegular};
+ghost use Rattle.ir_layout.specs.Rules.{named_ty, HasLayout, HaveLayouts, HoldsInside, HoldsName, IsSized};
 
 /// Proves that a type has at most one layout, and so have the types of a row.
 pub fn types_have_one_layout()
@@ -14,15 +14,27 @@ pub fn types_have_one_layout()
         HaveLayouts ts row ls → HaveLayouts ts row others → ls ≡ others }
 {}
 
+/// Proves how a layout comes of those of the parts: of an array's element, of a structure's fields, and of
+/// the type that a name stands for.
+pub fn layouts_come_of_parts()
+    ensures array { (ts : List NamedTyShape) (count : ℕ) (t : TyShape) (l : Layout) →
+        HasLayout ts (array count t) l ↔ ((element : Layout) × HasLayout ts t element
+        × (count * element.size ≤ most_size) × (l ≡ array_layout count element)) }
+    ensures structure { (ts : List NamedTyShape) (row : TyShapes) (packed : Bool) (l : Layout) →
+        HasLayout ts (structure row packed) l ↔ ((ls : List Layout) × HaveLayouts ts row ls
+        × ((structure_layout packed ls).size ≤ most_size) × (l ≡ structure_layout packed ls)) }
+    ensures row { (ts : List NamedTyShape) (t : TyShape) (row : TyShapes) (l : Layout)
+        (ls : List Layout) → HaveLayouts ts (types t row) (l ∷ ls)
+        ↔ (HasLayout ts t l × HaveLayouts ts row ls) }
+    ensures name { (ts : List NamedTyShape) (name : List ℕ) (l : Layout) →
+        HasLayout ts (named name) l
+        ↔ ((t : TyShape) × (named_ty ts name ≡ Some t) × HasLayout ts t l) }
+{}
+
 /// Proves of each layout of a type that its alignment is 1 to 8, and that its size is a multiple of it
-/// and isn't too great; and that a structure's layout comes of those of its fields.
+/// and isn't too great.
 pub fn layouts_are_regular()
-    ensures regular { (ts : List NamedTyShape) (t : TyShape) (l : Layout) → HasLayout ts t l →
-        IsRegular l }
-    ensures parts { (ts : List NamedTyShape) (row : TyShapes) (packed : Bool) (l : Layout) →
-        HasLayout ts (structure row packed) l →
-        (ls : List Layout) × HaveLayouts ts row ls × ((structure_layout packed ls).size ≤ most_size)
-        × (l ≡ structure_layout packed ls) }
+    ensures { (ts : List NamedTyShape) (t : TyShape) (l : Layout) → HasLayout ts t l → IsRegular l }
 {}
 
 /// Proves that a type has a layout only where each named type that it holds by value has one, and that a

@@ -11,7 +11,8 @@ mod table;
 mod types;
 
 pub use laws::{
-    fields_lie_apart, layouts_are_regular, types_have_one_layout, what_types_hold_has_a_layout,
+    fields_lie_apart, layouts_are_regular, layouts_come_of_parts, types_have_one_layout,
+    what_types_hold_has_a_layout,
 };
 pub use sizes::{Layout, MOST_SIZE};
 pub use table::Layouts;

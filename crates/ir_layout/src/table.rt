@@ -59,13 +59,15 @@ impl Layouts {
         layout_in(&self.of_name, ty)
     }
 
-    /// Returns where the field of a number begins in a structure of these fields, or `None` where the
-    /// fields up to it have no layouts or are too many. Where the structure has a layout, so has each field.
+    /// Returns where the field of a number begins in a structure of these fields, or `None` where one of the
+    /// fields up to it has no layout, or they are too great. In a structure that has a layout each field has
+    /// its place.
     pub fn offset_of(&self, fields: &[Ty], packed: bool, index: usize) -> Option<u64>
         ensures found { (m : Module) → module_known m ≡ true → IsWholeTable m self.now →
             list_all (ty_known (length m.names)) fields.now ≡ true → (at : ℕ) → result ≡ Some at →
-            (ls : List Layout) × (at ≡ field_offset packed 0 ls index) × HaveLayouts
-            (module_shape m).types (ty_row (map (ty_shape m.names) (take (index + 1) fields.now))) ls }
+            (ls : List Layout) × (at ≡ field_offset packed 0 ls index)
+            × HaveLayouts (module_shape m).types
+            (ty_row (map (ty_shape m.names) (take (index + 1) fields.now))) ls }
         ensures all { (m : Module) → module_known m ≡ true → IsWholeTable m self.now →
             list_all (ty_known (length m.names)) fields.now ≡ true → (ls : List Layout) →
             HaveLayouts (module_shape m).types (ty_row (map (ty_shape m.names) fields.now)) ls →
