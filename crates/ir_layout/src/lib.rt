@@ -1,0 +1,18 @@
+//! The layout of types: size, alignment, and where a structure's fields lie.
+//!
+//! `specs/Rules.antt` says, without the code, which layout a type has, where types have names; what lays out
+//! a value or steps through one cites it. A module's named types are laid out once, in [`Layouts`].
+#![tactic(auto)]
+
+mod laws;
+mod order;
+mod sizes;
+mod table;
+mod types;
+
+pub use laws::{
+    fields_lie_apart, layouts_are_regular, layouts_come_of_parts, types_have_one_layout,
+    what_types_hold_has_a_layout,
+};
+pub use sizes::{Layout, MOST_SIZE};
+pub use table::Layouts;
