@@ -8,7 +8,7 @@ export SWIFTR_QUIET ?= 1
 
 help:
 	@echo 'make demo                compiles an example, runs it, and flips bits in it (seconds; runs dist/ where nothing is built)'
-	@echo 'make build               proves this tree and builds the command (from nothing an hour or so on four processors)'
+	@echo 'make build               proves this tree and builds the command (from nothing half an hour or so on four processors)'
 	@echo 'make test                the gate: proves everything, tries every must-fail edit, runs every test and program'
 	@echo 'make lint                looks for long clauses, missing docs and the like (seconds; no part of the gate)'
 	@echo 'make documents           runs the commands that README and docs show, and compares what they print'
