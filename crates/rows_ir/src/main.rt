@@ -4,6 +4,7 @@
 #![tactic(auto)]
 
 mod constants;
+mod layouts;
 mod lexical;
 mod modules;
 mod rows;
@@ -15,7 +16,7 @@ use std::fs;
 use std::rt::Files;
 
 /// The files that have a case in each row.
-const FILES: [&str; 11] = [
+const FILES: [&str; 12] = [
     "words.txt",
     "tokens.txt",
     "kept.txt",
@@ -24,6 +25,7 @@ const FILES: [&str; 11] = [
     "entries.txt",
     "types.txt",
     "constants.txt",
+    "layouts.txt",
     "lines.txt",
     "fronts.txt",
     "texts.txt",
@@ -40,6 +42,7 @@ fn answer(alloc: Global, file: &str, text: &str) -> Result<String> {
         "entries.txt" => tables::entry(alloc, text),
         "types.txt" => constants::types(alloc, text),
         "constants.txt" => constants::constants(alloc, text),
+        "layouts.txt" => layouts::layouts(alloc, text),
         "lines.txt" => modules::blocks(alloc, text),
         "fronts.txt" => modules::fronts(alloc, text),
         _ => modules::module(alloc, text),

@@ -1,5 +1,8 @@
 //! Modules.
 
+ghost use Rattle.std.specs.Prelude.{◌≡◌, true, IfOk};
+ghost use Rattle.ir_tree.specs.Known.{module_known};
+
 use crate::lexical::{kept, lex_refusal, part};
 use anyhow::{Result, bail};
 use ir_parse::{ParseError, parse};
@@ -9,7 +12,9 @@ use std::alloc::Global;
 use std::str::from_utf8;
 
 /// Reads the module of a text, or says why there is none.
-fn read(alloc: Global, text: &str) -> Result<Result<Parsed, String>> {
+pub fn read(alloc: Global, text: &str) -> Result<Result<Parsed, String>>
+    ensures { IfOk result (λ read. IfOk read (λ p. module_known p.«module» ≡ true)) }
+{
     let toks = match kept(alloc, text.as_bytes()) {
         Ok(toks) => toks,
         Err(error) => return Ok(Err(lex_refusal(alloc, error)?)),
