@@ -1,5 +1,5 @@
 -- From what was made of a text to the job of the form.
-use Rattle.std.proofs.Common.{◌≡◌, ◌≤◌, ◌<◌, arith, subst, w32, to_z, of_z, ℕ, ℤ, pos, negsuc, List, [], length, ap, sym, ◌∙◌, Some, Result, Ok, Err, IfOk, IfErr, MatchResult}
+use Rattle.std.proofs.Common.{◌≡◌, refl, ◌≤◌, ◌<◌, arith, subst, w32, to_z, of_z, ℕ, ℤ, pos, negsuc, List, [], length, ap, sym, ◌∙◌, Some, Result, Ok, Err, IfOk, IfErr, MatchResult}
 use Rattle.sr_base.specs.Meanings.{StoreMeaning}
 use Rattle.sr_command.specs.FirstForm.{Returns, exit_status}
 use Rattle.sr_command.specs.Program.{executable}
@@ -15,7 +15,7 @@ use Rattle.sr_command.specs.Jobs.{IsJobOf, StopsEarly}
 use Rattle.sr_command.specs.Forms.Compile.{IsBuilt}
 use Rattle.sr_command.specs.declared.status.Status.{Status}
 use Rattle.sr_command.specs.declared.status.Status.TheVariants.{NoMemory}
-use Rattle.sr_command.proofs.Sound.{IsSound, same_file, not_absent}
+use Rattle.sr_command.proofs.Sound.{IsSound, told_of, holds_of, one_file, not_absent}
 use Rattle.sr_command.specs.declared.refusal.Refusal.{Refusal}
 use Rattle.sr_command.specs.declared.refusal.Refusal.TheVariants.{TooLong, NotBuilt}
 use Rattle.sr_command.specs.declared.job.Job.{Job}
@@ -54,12 +54,22 @@ not_refused text (TooLong most) number accepted h = omega (arith, accepted.0, h.
 not_refused text NotBuilt number accepted h = h.1 number accepted.1
 not_refused text other number accepted h = absurd h
 
--- what can be compiled is
+-- files that are told decide one status of the form
 pub compile_sound : (input output : List ℕ) → IsSound (compiling input output)
 compile_sound input output = record {
-  not_refused = λ files why (there, number, held_there, accepted) (text, holds, refuses).
-      not_refused text why number (subst (λ (t : List ℕ). IsAccepted t number) (same_file files input there text held_there holds) accepted) refuses;
-  not_lacking = λ files (there, number, held_there, accepted) lacks. not_absent files input there held_there lacks;
-  not_stopped = λ files given can halts. halts;
-  not_over = λ files given can halts. halts;
+  can = λ files (text, number, there, accepted). (
+    told_of files input text there,
+    (
+      record { image = Some (executable (exit_status number)); text = points_text exit_points; line = [] },
+      (text, holds_of files input text there, gives_executable text number (executable (exit_status number)) (points_text exit_points) [] accepted.0 accepted.1 refl refl refl),
+    ),
+  );
+  given_refused = λ files given why told (text, holds, (number, bytes, points, accepted, hardened, is)) (other, found, refuses).
+      not_refused other why number (subst (λ (t : List ℕ). IsAccepted t number) (one_file files input text other told holds found) accepted) refuses;
+  given_lacking = λ files given told (text, holds, gives) lacks. not_absent files input text told holds lacks;
+  given_halted = λ files status given other told gives halts. absurd halts;
+  halted_once = λ files a b given other told halts also. absurd halts;
+  halted_refused = λ files status given why told halts refuses. halts;
+  halted_lacking = λ files status given told halts lacks. halts;
+  refused_lacking = λ files why told (text, holds, refuses) lacks. not_absent files input text told holds lacks;
 }

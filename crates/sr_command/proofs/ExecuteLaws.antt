@@ -1,4 +1,4 @@
--- A program that can be run to its end is.
+-- A program that is told is run to one status, or is refused, or isn't there.
 use Rattle.std.proofs.Common.{◌≡◌, ℕ, List, sym, ◌∙◌, ap, Option, IsSome}
 use Rattle.sr_base.specs.Files.{Files}
 use Rattle.sr_command.specs.Yield.{Yield}
@@ -9,9 +9,9 @@ use Rattle.rv_model.specs.Run.{run}
 use Rattle.rv_model.specs.Start.{started}
 use Rattle.sr_command.specs.Loads.{RefusesLoad, LacksLoad}
 use Rattle.sr_command.specs.Forms.Execute.{Runs, run_status, executing}
-use Rattle.sr_command.proofs.LoadLaws.{one_load, load_not_refused, load_there}
+use Rattle.sr_command.proofs.LoadLaws.{one_load, load_not_refused, load_there, refused_there}
 use Rattle.sr_command.specs.declared.status.Status.{Status}
-use Rattle.sr_command.specs.declared.status.Status.TheVariants.{Done, Stopped, StepsOver}
+use Rattle.sr_command.specs.declared.status.Status.TheVariants.{Done}
 
 -- a program that is told is run to one status
 one_status : (files : Option Files) (program : List ℕ) (input : Option (List ℕ)) (steps : ℕ) (flip : Option Flip) (a b : Status) (given other : Yield) → IsSome files → Runs files program input steps flip a given → Runs files program input steps flip b other → a ≡ b
@@ -29,17 +29,15 @@ run_not_refused files program why input steps flip status given told (image, con
 run_there : (files : Option Files) (program : List ℕ) (input : Option (List ℕ)) (steps : ℕ) (flip : Option Flip) (status : Status) (given : Yield) → IsSome files → Runs files program input steps flip status given → LacksLoad files program input → ⊥
 run_there files program input steps flip status given told (image, content, loaded, answered) = load_there files program input image content told loaded
 
-not_stopped : Done ≡ Stopped → ⊥
-not_stopped e = cc
-
-not_over : Done ≡ StepsOver → ⊥
-not_over e = cc
-
--- what can be run to its end is
+-- files that are told decide one status of the form
 pub execute_sound : (program : List ℕ) (input : Option (List ℕ)) (steps : ℕ) (flip : Option Flip) → IsSound (executing program input steps flip)
 execute_sound program input steps flip = record {
-  not_refused = λ files why (told, (given, gives)) refuses. run_not_refused files program why input steps flip Done given told gives refuses;
-  not_lacking = λ files (told, (given, gives)) lacks. run_there files program input steps flip Done given told gives lacks;
-  not_stopped = λ files other (told, (given, gives)) halts. not_stopped (one_status files program input steps flip Done Stopped given other told gives halts);
-  not_over = λ files other (told, (given, gives)) halts. not_over (one_status files program input steps flip Done StepsOver given other told gives halts);
+  can = λ files can. can;
+  given_refused = λ files given why told gives refuses. run_not_refused files program why input steps flip Done given told gives refuses;
+  given_lacking = λ files given told gives lacks. run_there files program input steps flip Done given told gives lacks;
+  given_halted = λ files status given other told gives halts. one_status files program input steps flip Done status given other told gives halts;
+  halted_once = λ files a b given other told halts also. one_status files program input steps flip a b given other told halts also;
+  halted_refused = λ files status given why told halts refuses. run_not_refused files program why input steps flip status given told halts refuses;
+  halted_lacking = λ files status given told halts lacks. run_there files program input steps flip status given told halts lacks;
+  refused_lacking = λ files why told refuses lacks. refused_there files program why input told refuses lacks;
 }

@@ -12,18 +12,10 @@ use Rattle.sr_command.specs.declared.status.Status.{Status}
 use Rattle.sr_command.specs.declared.status.Status.TheVariants.{NoMemory}
 use Rattle.sr_command.specs.declared.refusal.Refusal.{Refusal}
 use Rattle.sr_command.specs.declared.refusal.Refusal.TheVariants.{TooLong, NotElf, WrongKind, BadSegment, Overlap, TooLarge}
+use Rattle.sr_command.proofs.Sound.{one_file, not_absent}
 use Rattle.sr_command.specs.Loads.{HasFile, HasInput, HasLongerInput, LacksInput, IsLoaded, IsNoExecutable, RefusesLoad, LacksLoad, most_program}
 
--- two contents of one file that is told are the same, and it isn't absent
-one_file : (files : Option Files) (name a b : List ℕ) → IsSome files → Holds files name (Some a) → Holds files name (Some b) → a ≡ b
-one_file None name a b told p q = absurd (cc)
-one_file (Some m) name a b told p q = cc
-
-not_absent : (files : Option Files) (name a : List ℕ) → IsSome files → Holds files name (Some a) → Holds files name None → ⊥
-not_absent None name a told p q = cc
-not_absent (Some m) name a told p q = cc
-
--- so is the input
+-- two inputs that are told are the same
 one_input : (files : Option Files) (input : Option (List ℕ)) (a b : List ℕ) → IsSome files → HasInput files input a → HasInput files input b → a ≡ b
 one_input files None a b told p q = p ∙ sym q
 one_input files (Some name) a b told p q = one_file files name a b told p.0 q.0
@@ -71,6 +63,27 @@ load_not_refused files program other input image content told l h = absurd h
 pub load_there : (files : Option Files) (program : List ℕ) (input : Option (List ℕ)) (image : ProgramImage) (content : List ℕ) → IsSome files → IsLoaded files program input image content → LacksLoad files program input → ⊥
 load_there files program input image content told l (inl lacks) = not_absent files program l.bytes told l.read.0.0 lacks
 load_there files program input image content told l (inr (has, lacks)) = input_there files input content told l.read.1 lacks
+
+-- what is refused is there
+longer_there : (files : Option Files) (input : Option (List ℕ)) → IsSome files → HasLongerInput files input → LacksInput files input → ⊥
+longer_there files None told longer lacks = longer
+longer_there files (Some name) told longer lacks = not_absent files name longer.0 told longer.1 lacks
+
+broken_there : (files : Option Files) (program : List ℕ) (input : Option (List ℕ)) (error : ElfError) → IsSome files → IsNoExecutable files program input error → LacksLoad files program input → ⊥
+broken_there files program input error told (bytes, content, read, fails) (inl lacks) = not_absent files program bytes told read.0.0 lacks
+broken_there files program input error told (bytes, content, read, fails) (inr (has, lacks)) = input_there files input content told read.1 lacks
+
+pub refused_there : (files : Option Files) (program : List ℕ) (why : Refusal) (input : Option (List ℕ)) → IsSome files → RefusesLoad files program input why → LacksLoad files program input → ⊥
+refused_there files program (TooLong most) input told (inl (is_most, (content, holds, longer))) (inl lacks) = not_absent files program content told holds lacks
+refused_there files program (TooLong most) input told (inl (is_most, (content, holds, longer))) (inr ((bytes, has), lacks)) = not_longer files program bytes content most_program told has holds longer
+refused_there files program (TooLong most) input told (inr (is_most, (bytes, has), longer)) (inl lacks) = not_absent files program bytes told has.0 lacks
+refused_there files program (TooLong most) input told (inr (is_most, has, longer)) (inr (also, lacks)) = longer_there files input told longer lacks
+refused_there files program NotElf input told h lacks = broken_there files program input elf.NotElf told h lacks
+refused_there files program WrongKind input told h lacks = broken_there files program input elf.WrongKind told h lacks
+refused_there files program BadSegment input told h lacks = broken_there files program input elf.BadSegment told h lacks
+refused_there files program Overlap input told h lacks = broken_there files program input elf.Overlap told h lacks
+refused_there files program TooLarge input told h lacks = broken_there files program input elf.TooLarge told h lacks
+refused_there files program other input told h lacks = absurd h
 
 -- what is no executable is refused, or memory ran out
 pub load_stops : (r : Result Loaded Status) (s s' : StoreMeaning) (program : List ℕ) (input : Option (List ℕ)) → IfOk r (IsLoadedAs s.files program input) → IfErr r (λ status. status ≡ NoMemory) → MatchResult r (IsLoadedAs s.files program input) (StopsLoading s s' program input)

@@ -1,5 +1,5 @@
 -- From the module of a text to the job of the form, and that such a text isn't refused.
-use Rattle.std.proofs.Common.{◌≡◌, ℕ, ◌≤◌, List, [], length, ap, ◌∙◌, subst, arith, None, Result, Ok, Err, IfOk, IfErr, MatchResult}
+use Rattle.std.proofs.Common.{◌≡◌, ℕ, ◌≤◌, List, [], length, refl, ap, ◌∙◌, subst, arith, None, Result, Ok, Err, IfOk, IfErr, MatchResult}
 use Rattle.sr_base.specs.Meanings.{StoreMeaning}
 use Rattle.ir_print.specs.Printed.{module_text}
 use Rattle.ir_tree.specs.Shape.{ModuleShape}
@@ -15,7 +15,7 @@ use Rattle.sr_command.specs.declared.refusal.Refusal.{Refusal}
 use Rattle.sr_command.specs.declared.refusal.Refusal.TheVariants.{TooLong, Bad, Outside, Deep, Syntax}
 use Rattle.sr_command.specs.declared.status.Status.{Status}
 use Rattle.sr_command.specs.declared.status.Status.TheVariants.{NoMemory}
-use Rattle.sr_command.proofs.Sound.{IsSound, same_file, not_absent}
+use Rattle.sr_command.proofs.Sound.{IsSound, told_of, holds_of, one_file, not_absent}
 use Rattle.sr_command.specs.declared.job.Job.{Job}
 use Rattle.sr_command.specs.declared.job.Job.TheVariants.{Whole, Refuse}
 
@@ -52,12 +52,19 @@ printed_not_refused text (Deep at) m printable h = not_refused text m (source.De
 printed_not_refused text (Syntax at) m printable h = not_refused text m (source.Syntax at) printable.1 h.1
 printed_not_refused text other m printable h = absurd h.1
 
--- what can be printed is
+-- files that are told decide one status of the form
 pub print_sound : (input : List ℕ) → IsSound (printing input)
 print_sound input = record {
-  not_refused = λ files why (there, m, held_there, printable) (text, holds, refuses).
-      printed_not_refused text why m (subst (λ (t : List ℕ). HasModule t m) (same_file files input there text held_there holds) printable) refuses;
-  not_lacking = λ files (there, m, held_there, printable) lacks. not_absent files input there held_there lacks;
-  not_stopped = λ files given can halts. halts;
-  not_over = λ files given can halts. halts;
+  can = λ files (text, m, there, printable). (
+    told_of files input text there,
+    (record { image = None; text = module_text m; line = [] }, (text, holds_of files input text there, (m, printable, refl))),
+  );
+  given_refused = λ files given why told (text, holds, (m, printable, is)) (other, found, refuses).
+      printed_not_refused other why m (subst (λ (t : List ℕ). HasModule t m) (one_file files input text other told holds found) printable) refuses;
+  given_lacking = λ files given told (text, holds, gives) lacks. not_absent files input text told holds lacks;
+  given_halted = λ files status given other told gives halts. absurd halts;
+  halted_once = λ files a b given other told halts also. absurd halts;
+  halted_refused = λ files status given why told halts refuses. halts;
+  halted_lacking = λ files status given told halts lacks. halts;
+  refused_lacking = λ files why told (text, holds, refuses) lacks. not_absent files input text told holds lacks;
 }

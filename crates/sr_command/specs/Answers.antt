@@ -61,7 +61,7 @@ abbrev pub IsDone : Promise → World → World → Type 0
 IsDone p w w' = (given : Yield) × p.gives w.store.files given × IsWritten p.output w'.store.files given.image
     × Takes w.out.taken w'.out.taken given.text
 
--- why words of this form end with a status; two causes of different statuses shut one another out
+-- why words of this form end with a status; memory may run out at any time
 abbrev pub IsCausedBy : Promise → Status → World → World → Type 0
 IsCausedBy p Done w w' = IsDone p w w'
 IsCausedBy p Usage w w' = ⊥

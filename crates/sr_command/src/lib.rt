@@ -6,6 +6,7 @@
 mod first_form;
 mod forms;
 mod job;
+mod laws;
 mod loading;
 mod points;
 mod program;
@@ -14,6 +15,7 @@ mod status;
 mod top;
 mod words;
 
+pub use laws::files_decide_one_status;
 pub use refusal::Refusal;
 pub use status::Status;
 pub use top::swiftr;

@@ -1,10 +1,8 @@
 //! The command `swiftr`: the call of `sr_command` over the files of the system and standard output.
 #![tactic(auto)]
 
-mod edge;
-
-use edge::{DirStore, StdSink};
 use sr_command::{Status, swiftr};
+use sr_edge::{DirStore, StdSink};
 use std::process::ExitCode;
 use std::rt::Env;
 use std::{env, io};

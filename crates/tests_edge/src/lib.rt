@@ -1,0 +1,5 @@
+//! Tests of the real outside, which no contract can speak of.
+#![tactic(auto)]
+
+#[cfg(test)]
+mod tests;
