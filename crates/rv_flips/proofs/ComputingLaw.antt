@@ -22,7 +22,7 @@ use Rattle.rv_flips.proofs.CellLemmas.{holds_sure}
 use Rattle.rv_flips.proofs.MoveLemmas.{one_word}
 use Rattle.rv_flips.proofs.WordLaws.{does_put, step_here}
 
--- a right number counts as kept with any tag, but as a code word
+-- a right number counts as kept with any tag but that of code words
 right_kept : (tag : Tag) (key v x : ℕ) (damage : Damage) → tag ≢ Code → x ≡ v → Holds key (Has tag v) damage x
 right_kept One key v x First other e = tt
 right_kept Two key v x Second other e = tt

@@ -23,8 +23,9 @@ KeepsOperands Immediates o regs tag v w = Keeps regs tag o.rs1 v × (w ≡ bits6
 KeepsOperands Registers o regs tag v w = Keeps regs tag o.rs1 v × Keeps regs tag o.rs2 w
 KeepsOperands _ o regs tag v w = ⊥
 
--- wherever a word that computes stands, and whatever else is known there: where its operands are kept with one tag, but as code words,
--- its destination, if it isn't x0, keeps what it computes with this tag, after one instruction and whatever flip outside the list comes
+-- a word that computes stands anywhere, its operands are kept with one tag, which is not that of code words, and its destination isn't
+-- x0. Then, whatever flip outside the list comes, after one instruction the destination keeps what the word computes with this tag, and
+-- what else was known is known still
 abbrev pub Computes : Type 0
 Computes = (words : List ℕ) (points : List (ℕ × ℕ)) (c : Assertion) (form : Form) (tag : Tag) (v w : ℕ)
     → KeepsOperands (group_of (kind_of form)) (operands_of form) c.regs tag v w → tag ≢ Code

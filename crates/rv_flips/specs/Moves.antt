@@ -13,7 +13,7 @@ pub record IsPending (listed : ℕ → ℕ → Type 0) (damage : Damage) (s : Ma
   pub fits : FlipFits f
   pub outside : IsOutside listed s f
 
--- the flip, if one is still to come, is so
+-- where a flip is still to come, nothing is damaged so far, and it falls outside the list
 abbrev pub Pending : (ℕ → ℕ → Type 0) → Damage → MachineState → Option Flip → Type 0
 Pending listed damage s None = Unit {0}
 Pending listed damage s (Some f) = IsPending listed damage s f

@@ -21,34 +21,34 @@ unfolding stored
 stored-none address xs = refl
 
 -- the segments in front stay, and the store goes into those after them
-abbrev pub behind : List LoadedSegment → Option (List LoadedSegment) → Option (List LoadedSegment)
-behind front o = option_map (λ rest. front ++ rest) o
+abbrev pub after_these : List LoadedSegment → Option (List LoadedSegment) → Option (List LoadedSegment)
+after_these front o = option_map (λ rest. front ++ rest) o
 
 -- of these segments the first i don't serve the store
 abbrev pub PassedBy : ℕ → List ℕ → List LoadedSegment → ℕ → Type 0
-PassedBy address xs gs i = stored address xs gs ≡ behind (take i gs) (stored address xs (drop i gs))
+PassedBy address xs gs i = stored address xs gs ≡ after_these (take i gs) (stored address xs (drop i gs))
 
-behind-none : (o : Option (List LoadedSegment)) → o ≡ behind [] o
-behind-none None = refl
-behind-none (Some gs) = refl
+after_these-none : (o : Option (List LoadedSegment)) → o ≡ after_these [] o
+after_these-none None = refl
+after_these-none (Some gs) = refl
 
 pub passed-zero : (address : ℕ) (xs : List ℕ) (gs : List LoadedSegment) → PassedBy address xs gs 0
-passed-zero address xs gs = behind-none (stored address xs gs)
+passed-zero address xs gs = after_these-none (stored address xs gs)
 
-behind-more : (front : List LoadedSegment) (g : LoadedSegment) (o : Option (List LoadedSegment))
-    → behind front (option_map (λ rest. g ∷ rest) o) ≡ behind (front ++ g ∷ []) o
-behind-more front g None = refl
-behind-more front g (Some gs) = ap Some (sym (append_assoc front (g ∷ []) gs))
+after_these-more : (front : List LoadedSegment) (g : LoadedSegment) (o : Option (List LoadedSegment))
+    → after_these front (option_map (λ rest. g ∷ rest) o) ≡ after_these (front ++ g ∷ []) o
+after_these-more front g None = refl
+after_these-more front g (Some gs) = ap Some (sym (append_assoc front (g ∷ []) gs))
 
 -- one segment more that doesn't serve it
 pub passed-more : (address : ℕ) (xs : List ℕ) (gs : List LoadedSegment) (i : ℕ) (g : LoadedSegment) → drop i gs ≡ g ∷ drop (i + 1) gs
     → take (i + 1) gs ≡ take i gs ++ g ∷ [] → serves written address (length xs) g ≡ false → PassedBy address xs gs i → PassedBy address xs gs (i + 1)
 passed-more address xs gs i g cut front is before =
     before
-    ∙ ap (λ rest. behind (take i gs) (stored address xs rest)) cut
-    ∙ ap (behind (take i gs)) (stored-passed address xs g (drop (i + 1) gs) is)
-    ∙ behind-more (take i gs) g (stored address xs (drop (i + 1) gs))
-    ∙ ap (λ front. behind front (stored address xs (drop (i + 1) gs))) (sym front)
+    ∙ ap (λ rest. after_these (take i gs) (stored address xs rest)) cut
+    ∙ ap (after_these (take i gs)) (stored-passed address xs g (drop (i + 1) gs) is)
+    ∙ after_these-more (take i gs) g (stored address xs (drop (i + 1) gs))
+    ∙ ap (λ front. after_these front (stored address xs (drop (i + 1) gs))) (sym front)
 
 set-cut : (gs : List LoadedSegment) (i : ℕ) (g : LoadedSegment) → i < length gs → set gs i g ≡ take i gs ++ g ∷ drop (i + 1) gs
 set-cut gs i g lt =
@@ -61,16 +61,16 @@ pub passed-served : (address : ℕ) (xs : List ℕ) (gs : List LoadedSegment) (i
     → serves written address (length xs) g ≡ true → PassedBy address xs gs i → stored address xs gs ≡ Some (set gs i (overwritten address xs g))
 passed-served address xs gs i g lt cut is before =
     before
-    ∙ ap (λ rest. behind (take i gs) (stored address xs rest)) cut
-    ∙ ap (behind (take i gs)) (stored-served address xs g (drop (i + 1) gs) is)
+    ∙ ap (λ rest. after_these (take i gs) (stored address xs rest)) cut
+    ∙ ap (after_these (take i gs)) (stored-served address xs g (drop (i + 1) gs) is)
     ∙ ap Some (sym (set-cut gs i (overwritten address xs g) lt))
 
 -- no segment serves it
 pub passed-all : (address : ℕ) (xs : List ℕ) (gs : List LoadedSegment) (i : ℕ) → drop i gs ≡ [] → PassedBy address xs gs i → stored address xs gs ≡ None
 passed-all address xs gs i none before =
     before
-    ∙ ap (λ rest. behind (take i gs) (stored address xs rest)) none
-    ∙ ap (behind (take i gs)) (stored-none address xs)
+    ∙ ap (λ rest. after_these (take i gs) (stored address xs rest)) none
+    ∙ ap (after_these (take i gs)) (stored-none address xs)
 
 -- the lowest bytes of a number are those of a longer list
 pub take-bytes_low_first : (i n m x : ℕ) → n ≤ m → take n (bytes_low_first i m x) ≡ bytes_low_first i n x

@@ -3,7 +3,7 @@
 use Rattle.std.specs.Prelude.{ℕ, ℤ, pos, ◌*ℤ◌, Bool, false, not, ◌+◌, ◌-◌, ◌*◌, ◌/◌, ◌%◌, ◌^◌, nat_lt, nat_le, ◌==◌, int_lt, int_le, int_div, int_rem, if◌then◌else◌, bit_and, bit_or, bit_xor}
 use Rattle.std.specs.Int.{w32, w64, cast_signed, int_shr}
 use Rattle.rv_inst.specs.declared.table.Kind.{Kind}
-use Rattle.rv_inst.specs.declared.table.Kind.TheVariants.{OpBeq, OpBne, OpBlt, OpBge, OpBltu, OpBgeu, OpLb, OpLh, OpLw, OpLd, OpLbu, OpLhu, OpLwu, OpSb, OpSh, OpSw, OpSd, OpAddi, OpSlti, OpSltiu, OpXori, OpOri, OpAndi, OpSlli, OpSrli, OpSrai, OpAdd, OpSub, OpSll, OpSlt, OpSltu, OpXor, OpSrl, OpSra, OpOr, OpAnd, OpAddiw, OpSlliw, OpSrliw, OpSraiw, OpAddw, OpSubw, OpSllw, OpSrlw, OpSraw, OpMul, OpMulh, OpMulhsu, OpMulhu, OpDiv, OpDivu, OpRem, OpRemu, OpMulw, OpDivw, OpDivuw, OpRemw, OpRemuw}
+use Rattle.rv_inst.specs.declared.table.Kind.TheVariants.{OpBeq, OpBne, OpBlt, OpBge, OpBltu, OpBgeu, OpLb, OpLh, OpLw, OpLd, OpLbu, OpLhu, OpLwu, OpSb, OpSh, OpSw, OpSd, OpAddi, OpSlti, OpSltiu, OpXori, OpOri, OpAndi, OpSlli, OpSrli, OpSrai, OpAdd, OpSub, OpSll, OpSlt, OpSltu, OpXor, OpSrl, OpSra, OpOr, OpAnd, OpAddiw, OpSlliw, OpSrliw, OpSraiw, OpAddw, OpSubw, OpSllw, OpSrlw, OpSraw, OpMul, OpMulh, OpMulhsu, OpMulhu, OpDiv, OpDivu, OpRem, OpRemu, OpMulw, OpDivw, OpDivuw, OpRemw, OpRemuw, OpLui, OpAuipc, OpJal, OpJalr, OpEcall}
 use Rattle.rv_inst.specs.Format.{bits_of, unsigned}
 use Rattle.rv_model.specs.State.{plus64}
 
@@ -51,15 +51,15 @@ truth test = if test then 1 else 0
 abbrev pub even_part : ℕ → ℕ
 even_part a = a - a % 2
 
--- shifts by the low six bits of an amount: to the left
+-- shifted to the left by the low six bits of an amount
 abbrev pub shifted_left : ℕ → ℕ → ℕ
 shifted_left a amount = a * 2 ^ (amount % 64) % 2 ^ 64
 
--- to the right, with zeros
+-- shifted to the right by them, with zeros
 abbrev pub shifted_right : ℕ → ℕ → ℕ
 shifted_right a amount = a / 2 ^ (amount % 64)
 
--- to the right, with the sign
+-- shifted to the right by them, with the sign
 abbrev pub shifted_signed : ℕ → ℕ → ℕ
 shifted_signed a amount = bits64 (int_shr (signed64 a) (amount % 64))
 
@@ -67,19 +67,19 @@ shifted_signed a amount = bits64 (int_shr (signed64 a) (amount % 64))
 abbrev pub plus32 : ℕ → ℕ → ℕ
 plus32 a b = word32 (plus64 a b)
 
--- their difference
+-- a difference of the low 32 bits, extended by its sign
 abbrev pub minus32 : ℕ → ℕ → ℕ
 minus32 a b = word32 (minus64 a b)
 
--- shifts of the low 32 bits by the low five bits of an amount, extended by their sign: to the left
+-- the low 32 bits shifted to the left by the low five bits of an amount, and extended by their sign
 abbrev pub shifted_left32 : ℕ → ℕ → ℕ
 shifted_left32 a amount = word32 (shifted_left a (amount % 32))
 
--- to the right, with zeros
+-- the low 32 bits shifted to the right by them, with zeros, and extended by their sign
 abbrev pub shifted_right32 : ℕ → ℕ → ℕ
 shifted_right32 a amount = word32 (a % 2 ^ 32 / 2 ^ (amount % 32))
 
--- to the right, with the sign
+-- the low 32 bits shifted to the right by them, with the sign
 abbrev pub shifted_signed32 : ℕ → ℕ → ℕ
 shifted_signed32 a amount = bits64 (int_shr (signed32 a) (amount % 32))
 
@@ -87,7 +87,7 @@ shifted_signed32 a amount = bits64 (int_shr (signed32 a) (amount % 32))
 abbrev pub times64 : ℕ → ℕ → ℕ
 times64 a b = a * b % 2 ^ 64
 
--- its lowest 32 bits, extended by their sign
+-- the lowest 32 bits of a product, extended by their sign
 abbrev pub times32 : ℕ → ℕ → ℕ
 times32 a b = word32 (times64 a b)
 
@@ -111,19 +111,19 @@ remainder a b = if b == 0 then a else bits64 (int_rem (signed64 a) (signed64 b))
 abbrev pub remainder_unsigned : ℕ → ℕ → ℕ
 remainder_unsigned a b = if b == 0 then a else a % b
 
--- the same of the low 32 bits, with the result extended by its sign: the signed quotient
+-- the signed quotient of the low 32 bits, extended by its sign
 abbrev pub quotient32 : ℕ → ℕ → ℕ
 quotient32 a b = if b % 2 ^ 32 == 0 then all_ones else sign_extended (2 ^ 31) (bits32 (int_div (signed32 a) (signed32 b)))
 
--- the unsigned quotient
+-- the unsigned quotient of the low 32 bits, extended by its sign
 abbrev pub quotient_unsigned32 : ℕ → ℕ → ℕ
 quotient_unsigned32 a b = if b % 2 ^ 32 == 0 then all_ones else word32 (a % 2 ^ 32 / (b % 2 ^ 32))
 
--- the signed remainder
+-- the signed remainder of the low 32 bits, extended by its sign
 abbrev pub remainder32 : ℕ → ℕ → ℕ
 remainder32 a b = if b % 2 ^ 32 == 0 then word32 a else sign_extended (2 ^ 31) (bits32 (int_rem (signed32 a) (signed32 b)))
 
--- the unsigned remainder
+-- the unsigned remainder of the low 32 bits, extended by its sign
 abbrev pub remainder_unsigned32 : ℕ → ℕ → ℕ
 remainder_unsigned32 a b = if b % 2 ^ 32 == 0 then word32 a else word32 (a % 2 ^ 32 % (b % 2 ^ 32))
 
@@ -131,15 +131,15 @@ remainder_unsigned32 a b = if b % 2 ^ 32 == 0 then word32 a else word32 (a % 2 ^
 abbrev pub high_signed : ℕ → ℕ → ℕ
 high_signed a b = bits64 (int_shr (signed64 a *ℤ signed64 b) 64)
 
--- of a signed and an unsigned one
+-- the upper 64 bits of a product, of which the first number is signed and the second unsigned
 abbrev pub high_mixed : ℕ → ℕ → ℕ
 high_mixed a b = bits64 (int_shr (signed64 a *ℤ pos b) 64)
 
--- of unsigned ones
+-- the upper 64 bits of a product of unsigned numbers
 abbrev pub high_unsigned : ℕ → ℕ → ℕ
 high_unsigned a b = a * b / 2 ^ 64
 
--- what an instruction that computes makes of rs1 and of rs2 or its immediate; no other computes
+-- what an instruction that computes makes of rs1 and of rs2 or its immediate; the others, which stand last, compute nothing
 abbrev pub operation : Kind → ℕ → ℕ → ℕ
 operation OpAddi a b = plus64 a b
 operation OpSlti a b = truth (less_signed a b)
@@ -182,7 +182,28 @@ operation OpDivw a b = quotient32 a b
 operation OpDivuw a b = quotient_unsigned32 a b
 operation OpRemw a b = remainder32 a b
 operation OpRemuw a b = remainder_unsigned32 a b
-operation _ a b = 0
+operation OpLui a b = 0
+operation OpAuipc a b = 0
+operation OpJal a b = 0
+operation OpJalr a b = 0
+operation OpBeq a b = 0
+operation OpBne a b = 0
+operation OpBlt a b = 0
+operation OpBge a b = 0
+operation OpBltu a b = 0
+operation OpBgeu a b = 0
+operation OpLb a b = 0
+operation OpLh a b = 0
+operation OpLw a b = 0
+operation OpLd a b = 0
+operation OpLbu a b = 0
+operation OpLhu a b = 0
+operation OpLwu a b = 0
+operation OpSb a b = 0
+operation OpSh a b = 0
+operation OpSw a b = 0
+operation OpSd a b = 0
+operation OpEcall a b = 0
 
 -- whether a branch is taken, by rs1 and rs2; no other instruction is a branch
 abbrev pub is_taken : Kind → ℕ → ℕ → Bool
