@@ -1,5 +1,5 @@
 -- The groups of instructions, by their major opcodes (RISC-V Unprivileged ISA, "RV32/64G Instruction Set Listings").
-use Rattle.std.specs.Prelude.{ℕ, ◌==◌, ◌<◌, if◌then◌else◌}
+use Rattle.std.specs.Prelude.{ℕ, Bool, true, false, ◌==◌, ◌<◌, if◌then◌else◌}
 use Rattle.rv_inst.specs.declared.table.Group.{Group}
 use Rattle.rv_inst.specs.declared.table.Group.TheVariants.{Constants, Addresses, Jumps, RegisterJumps, Branches, Loads, Stores, Immediates, Registers, Calls}
 use Rattle.rv_inst.specs.declared.table.Kind.{Kind}
@@ -25,6 +25,20 @@ group_at opcode =
 -- the group of an instruction
 abbrev pub group_of : Kind → Group
 group_of k = group_at ((row k).opcode)
+
+-- the groups are the same
+abbrev pub is_same_group : Group → Group → Bool
+is_same_group Constants Constants = true
+is_same_group Addresses Addresses = true
+is_same_group Jumps Jumps = true
+is_same_group RegisterJumps RegisterJumps = true
+is_same_group Branches Branches = true
+is_same_group Loads Loads = true
+is_same_group Stores Stores = true
+is_same_group Immediates Immediates = true
+is_same_group Registers Registers = true
+is_same_group Calls Calls = true
+is_same_group _ _ = false
 
 -- the registers are x0 to x31
 pub record HasRegisters (o : Operands) : Type 0 where

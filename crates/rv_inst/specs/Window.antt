@@ -3,10 +3,9 @@
 use Rattle.std.specs.Prelude.{◌≡◌, ℕ, ◌+◌, ◌*◌, ◌%◌, ◌^◌, ◌≤◌, ℤ, pos, negsuc, Bool, true, false, IsTrue, not, ◌==◌, nat_lt, ◌&&◌, ◌||◌, ◌⊎◌, List, [], ◌∷◌, ◌++◌, length, Option, Some, None, slice_get, All, Any}
 use Rattle.rv_inst.specs.declared.instruction.Form.{Form}
 use Rattle.rv_inst.specs.declared.instruction.Form.TheVariants.{LUI, JAL, BEQ, BNE, ADDI, ECALL}
-use Rattle.rv_inst.specs.declared.table.Group.{Group}
 use Rattle.rv_inst.specs.declared.table.Group.TheVariants.{RegisterJumps, Branches, Loads, Stores, Calls}
 use Rattle.rv_inst.specs.Forms.{kind_of}
-use Rattle.rv_inst.specs.Groups.{group_of}
+use Rattle.rv_inst.specs.Groups.{is_same_group, group_of}
 use Rattle.rv_inst.specs.Format.{bits_of}
 use Rattle.rv_inst.specs.Word.{form_at}
 use Rattle.rv_inst.specs.Registers.{reads, writes}
@@ -45,43 +44,23 @@ IsQuietPath words base (p ∷ q ∷ path) = IsPlace words base p × (quiet_next 
 
 -- a load
 abbrev pub is_load : Form → Bool
-is_load i = is_loads (group_of (kind_of i))
-  where
-    is_loads : Group → Bool
-    is_loads Loads = true
-    is_loads _ = false
+is_load i = is_same_group Loads (group_of (kind_of i))
 
 -- a store
 abbrev pub is_store : Form → Bool
-is_store i = is_stores (group_of (kind_of i))
-  where
-    is_stores : Group → Bool
-    is_stores Stores = true
-    is_stores _ = false
+is_store i = is_same_group Stores (group_of (kind_of i))
 
 -- a branch
 abbrev pub is_branch : Form → Bool
-is_branch i = is_branches (group_of (kind_of i))
-  where
-    is_branches : Group → Bool
-    is_branches Branches = true
-    is_branches _ = false
+is_branch i = is_same_group Branches (group_of (kind_of i))
 
 -- a jump to where a register points
 abbrev pub is_register_jump : Form → Bool
-is_register_jump i = is_register_jumps (group_of (kind_of i))
-  where
-    is_register_jumps : Group → Bool
-    is_register_jumps RegisterJumps = true
-    is_register_jumps _ = false
+is_register_jump i = is_same_group RegisterJumps (group_of (kind_of i))
 
 -- a call of the environment
 abbrev pub is_ecall : Form → Bool
-is_ecall i = is_calls (group_of (kind_of i))
-  where
-    is_calls : Group → Bool
-    is_calls Calls = true
-    is_calls _ = false
+is_ecall i = is_same_group Calls (group_of (kind_of i))
 
 -- the immediate is this number
 abbrev pub is_number : ℕ → ℤ → Bool
