@@ -70,7 +70,7 @@ uninstall:
 	rm -rf $(DESTDIR)$(PREFIX)/bin/swiftr $(DESTDIR)$(PREFIX)/lib/swiftr $(DESTDIR)$(PREFIX)/share/man/man1/swiftr.1
 
 clean:
-	rm -rf build $(program)
+	rm -rf build $(program) *.elf
 
 distclean:
 	rm -rf build crates/*/out
