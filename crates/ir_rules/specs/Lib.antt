@@ -1,0 +1,9 @@
+pub mod Values
+pub mod Uses
+pub mod Things
+pub mod Places
+pub mod NameRules
+pub mod Constants
+pub mod Instructions
+pub mod TypeRules
+pub mod Faults
