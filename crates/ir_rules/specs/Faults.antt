@@ -1,17 +1,33 @@
 -- Where in a text a rule fails first.
-use Rattle.std.specs.Prelude.{◌≡◌, ℕ, ◌≤◌, max, Option, Some, None}
+use Rattle.std.specs.Prelude.{◌≡◌, ℕ, ◌≤◌, ◌⊎◌, max, Option, Some, None}
 use Rattle.ir_tree.specs.ShapeOf.{module_shape}
 use Rattle.ir_tree.specs.declared.parsed.Parsed.{Parsed}
 use Rattle.ir_rules.specs.Places.{Place, spot_of}
 use Rattle.ir_rules.specs.NameRules.{AreThere, IsRepeated, Clash}
 use Rattle.ir_rules.specs.TypeRules.{HasProperTypes}
 
--- a rule of names fails at this offset. Two items with one name are a fault of the later one
-pub data NameFault (p : Parsed) (at : ℕ) : Type 0 where
-  missing : (place : Place) → spot_of p.spots place ≡ Some at → (AreThere (module_shape p.«module») place → ⊥) → NameFault p at
-  repeated : (place : Place) → spot_of p.spots place ≡ Some at → IsRepeated (module_shape p.«module») place → NameFault p at
-  clash : (x y : Place) (i j : ℕ) → spot_of p.spots x ≡ Some i → spot_of p.spots y ≡ Some j → Clash (module_shape p.«module») x y → at ≡ max i j
-      → NameFault p at
+-- a name that is used at this offset isn't there
+abbrev pub MissingFault : Parsed → ℕ → Type 0
+MissingFault p at = (place : Place) × (spot_of p.spots place ≡ Some at) × (AreThere (module_shape p.«module») place → ⊥)
+
+-- a function gives a name a second time at this offset
+abbrev pub RepeatFault : Parsed → ℕ → Type 0
+RepeatFault p at = (place : Place) × (spot_of p.spots place ≡ Some at) × IsRepeated (module_shape p.«module») place
+
+-- two items have one name, and the later of them is at this offset
+pub record ClashFault (p : Parsed) (at : ℕ) : Type 0 where
+  pub one : Place
+  pub other : Place
+  pub one_spot : ℕ
+  pub other_spot : ℕ
+  pub one_at : spot_of p.spots one ≡ Some one_spot
+  pub other_at : spot_of p.spots other ≡ Some other_spot
+  pub clash : Clash (module_shape p.«module») one other
+  pub later : at ≡ max one_spot other_spot
+
+-- a rule of names fails at this offset
+abbrev pub NameFault : Parsed → ℕ → Type 0
+NameFault p at = MissingFault p at ⊎ RepeatFault p at ⊎ ClashFault p at
 
 -- a rule of types fails at this offset
 abbrev pub TypeFault : Parsed → ℕ → Type 0
