@@ -1,0 +1,11 @@
+//! Types, constants and operands that are the same, whatever numbers their names have.
+//!
+//! Two parts of a module are the same where their shapes are equal. Names are kept once, so this is told by
+//! numbers, and no text is read.
+#![tactic(auto)]
+
+mod laws;
+mod types;
+
+pub use laws::same_types_are_equal;
+pub use types::same_ty;
