@@ -1,11 +1,8 @@
 -- A type's shape comes of the numbers of its names, and under distinct names the numbers come of the shape.
-use Rattle.std.proofs.Common.{◌≡◌, ℕ, zero, suc, ◌+◌, ◌<◌, Bool, true, false, List, [], ◌∷◌, length, map, Some, refl, sym, ◌∙◌, ap, subst, arith, slice_get, ltb-true, cond, Vec}
+use Rattle.std.proofs.Common.{◌≡◌, ℕ, Bool, true, List, [], ◌∷◌, length, map, refl, sym, ◌∙◌, ap, subst, ltb-true, Vec}
 use Rattle.std.specs.declared.alloc.Global.{Global}
-use Rattle.std.specs.Prelude.{not}
-use Rattle.std.proofs.lemmas.Slice.Eq.{bytes_eq-Decides}
 use Rattle.std.specs.List.{list_all, IsDistinct}
 use Rattle.std.specs.Str.{bytes_eq}
-use Rattle.ir_tree.specs.NameTable.{text_of, number_of}
 use Rattle.ir_tree.specs.Shape.{TyShape, TyShapes, integer, pointer, void, array, structure, named, no_types, types, ty_row}
 use Rattle.ir_tree.specs.ShapeOf.{ty_step, ty_shape}
 use Rattle.ir_tree.specs.Known.{ty_known_step, ty_known}
@@ -13,39 +10,13 @@ use Rattle.ir_tree.specs.declared.types.Ty.{Ty}
 use Rattle.ir_tree.specs.declared.types.Ty.TheOpen as ty
 use Rattle.ir_tree.specs.declared.types.Ty.TheVariants as variants
 use Rattle.ir_tree.specs.declared.types.Ty.TheFolds.{fold-roll-Ty, ind-Ty, map-Ty}
-use Rattle.ir_tree.proofs.Table.{one_number}
 use Rattle.ir_tree.proofs.Grows.{and_left, and_right}
-use Rattle.ir_same.specs.Numbered.{numbered_step, numbered_ty}
-
-found_here : (x : List ℕ) (xs : List (List ℕ)) (name : List ℕ) (b : Bool) → bytes_eq name x ≡ b
-    → (b ≡ false → slice_get xs (number_of xs name) ≡ Some name) → slice_get (x ∷ xs) (cond (not b) (1 + number_of xs name) 0) ≡ Some name
-found_here x xs name true e h = ap Some (sym ((bytes_eq-Decides name x).0 e))
-found_here x xs name false e h =
-    let next : 1 + number_of xs name ≡ suc (number_of xs name) = omega arith in
-    rw next (h refl)
-
--- a name of the table stands at its number
-pub found_at : (names : List (List ℕ)) (i : ℕ) (name : List ℕ) → slice_get names i ≡ Some name → slice_get names (number_of names name) ≡ Some name
-found_at [] i name e = cc
-found_at (x ∷ xs) zero name e =
-    let same : name ≡ x = cc in
-    found_here x xs name (bytes_eq name x) refl (λ differs. let equal : bytes_eq name x ≡ true = (bytes_eq-Decides name x).1 same in cc)
-found_at (x ∷ xs) (suc i) name e = found_here x xs name (bytes_eq name x) refl (λ differs. found_at xs i name e)
-
-text_at : (names : List (List ℕ)) (i : ℕ) → i < length names → slice_get names i ≡ Some (text_of names i)
-text_at [] i h = absurd (omega arith)
-text_at (x ∷ xs) zero h = refl
-text_at (x ∷ xs) (suc i) h = text_at xs i (omega arith)
-
--- in a table of distinct names a number is that of its name
-pub number_at : (names : List (List ℕ)) → IsDistinct bytes_eq names → (i : ℕ) → i < length names → number_of names (text_of names i) ≡ i
-number_at names distinct i h =
-    let there : slice_get names i ≡ Some (text_of names i) = text_at names i h in
-    one_number names distinct _ i (text_of names i) (found_at names i (text_of names i) there) there
+use Rattle.ir_same.specs.Numbered.{numbered_ty_step, numbered_ty}
+use Rattle.ir_same.proofs.Numbers.{number_at, to_text, to_number}
 
 -- a structure by its fields
 pub structure_numbered : (v : Vec Ty Global) (packed : Bool) → numbered_ty (variants.Struct v packed) ≡ structure (ty_row (map numbered_ty v.items)) packed
-structure_numbered v packed = ap numbered_ty (sym (variants.rolls-Struct v packed)) ∙ fold-roll-Ty TyShape numbered_step (ty.Struct v packed)
+structure_numbered v packed = ap numbered_ty (sym (variants.rolls-Struct v packed)) ∙ fold-roll-Ty TyShape numbered_ty_step (ty.Struct v packed)
 
 -- a type with other names
 unfoldable mutual
@@ -60,19 +31,6 @@ unfoldable mutual
   pub renamed_row : (List ℕ → List ℕ) → TyShapes → TyShapes
   renamed_row f no_types = no_types
   renamed_row f (types t row) = types (renamed f t) (renamed_row f row)
-
--- the number that stands in a name's place
-pub number_in : List ℕ → ℕ
-number_in [] = 0
-number_in (id ∷ rest) = id
-
--- the name of the number
-abbrev pub to_text : List (List ℕ) → List ℕ → List ℕ
-to_text names number = text_of names (number_in number)
-
--- the number of the name
-abbrev pub to_number : List (List ℕ) → List ℕ → List ℕ
-to_number names name = number_of names name ∷ []
 
 both : {t u : TyShape} {row other : TyShapes} → t ≡ u → row ≡ other → types t row ≡ types u other
 both e f = cc
@@ -89,8 +47,8 @@ texts_in_row names (t ∷ ts) = both t.1 (texts_in_row names ts)
 
 texts_at : (names : List (List ℕ)) (y : ty.Ty-F ((t : Ty) × HasTexts names t))
     → ty_step names (map-Ty Ty TyShape (ty_shape names) (map-Ty ((t : Ty) × HasTexts names t) Ty (λ e. e.0) y))
-    ≡ renamed (to_text names) (numbered_step (map-Ty Ty TyShape numbered_ty (map-Ty ((t : Ty) × HasTexts names t) Ty (λ e. e.0) y)))
-unfolding renamed renamed_row number_in
+    ≡ renamed (to_text names) (numbered_ty_step (map-Ty Ty TyShape numbered_ty (map-Ty ((t : Ty) × HasTexts names t) Ty (λ e. e.0) y)))
+unfolding renamed renamed_row
 texts_at names (ty.Int bits) = refl
 texts_at names ty.Ptr = refl
 texts_at names ty.Void = refl
@@ -100,9 +58,9 @@ texts_at names (ty.Named id) = refl
 
 pub has_texts : (names : List (List ℕ)) (t : Ty) → HasTexts names t
 has_texts names = ind-Ty (HasTexts names) (λ x y is.
-    let step = subst (λ z. ty_step names (map-Ty Ty TyShape (ty_shape names) z) ≡ renamed (to_text names) (numbered_step (map-Ty Ty TyShape numbered_ty z)))
+    let step = subst (λ z. ty_step names (map-Ty Ty TyShape (ty_shape names) z) ≡ renamed (to_text names) (numbered_ty_step (map-Ty Ty TyShape numbered_ty z)))
     is (texts_at names y) in
-    fold-roll-Ty TyShape (ty_step names) x ∙ step ∙ ap (renamed (to_text names)) (sym (fold-roll-Ty TyShape numbered_step x)))
+    fold-roll-Ty TyShape (ty_step names) x ∙ step ∙ ap (renamed (to_text names)) (sym (fold-roll-Ty TyShape numbered_ty_step x)))
 
 -- a type's numbers come of its shape
 abbrev pub HasNumbers : List (List ℕ) → Ty → Type 0
@@ -117,7 +75,7 @@ numbers_in_row names (t ∷ ts) h = both (t.1 (and_left _ _ h)) (numbers_in_row 
 
 numbers_at : (names : List (List ℕ)) → IsDistinct bytes_eq names → (y : ty.Ty-F ((t : Ty) × HasNumbers names t))
     → ty_known_step (length names) (map-Ty Ty Bool (ty_known (length names)) (map-Ty ((t : Ty) × HasNumbers names t) Ty (λ e. e.0) y)) ≡ true
-    → numbered_step (map-Ty Ty TyShape numbered_ty (map-Ty ((t : Ty) × HasNumbers names t) Ty (λ e. e.0) y))
+    → numbered_ty_step (map-Ty Ty TyShape numbered_ty (map-Ty ((t : Ty) × HasNumbers names t) Ty (λ e. e.0) y))
     ≡ renamed (to_number names) (ty_step names (map-Ty Ty TyShape (ty_shape names) (map-Ty ((t : Ty) × HasNumbers names t) Ty (λ e. e.0) y)))
 unfolding renamed renamed_row
 numbers_at names distinct (ty.Int bits) h = refl
@@ -133,9 +91,9 @@ has_numbers names distinct = ind-Ty (HasNumbers names) (λ x y is known.
     let here : ty_known_step (length names) (map-Ty Ty Bool (ty_known (length names)) x) ≡ true =
     sym (fold-roll-Ty Bool (ty_known_step (length names)) x) ∙ known in
     let step = subst (λ z. ty_known_step (length names) (map-Ty Ty Bool (ty_known (length names)) z) ≡ true
-    → numbered_step (map-Ty Ty TyShape numbered_ty z) ≡ renamed (to_number names) (ty_step names (map-Ty Ty TyShape (ty_shape names) z)))
+    → numbered_ty_step (map-Ty Ty TyShape numbered_ty z) ≡ renamed (to_number names) (ty_step names (map-Ty Ty TyShape (ty_shape names) z)))
     is (numbers_at names distinct y) in
-    fold-roll-Ty TyShape numbered_step x ∙ step here ∙ ap (renamed (to_number names)) (sym (fold-roll-Ty TyShape (ty_step names) x)))
+    fold-roll-Ty TyShape numbered_ty_step x ∙ step here ∙ ap (renamed (to_number names)) (sym (fold-roll-Ty TyShape (ty_step names) x)))
 
 -- types with the same numbers have one shape under each table
 pub one_shape : (names : List (List ℕ)) (a b : Ty) → numbered_ty a ≡ numbered_ty b → ty_shape names a ≡ ty_shape names b

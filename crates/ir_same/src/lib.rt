@@ -4,8 +4,10 @@
 //! numbers, and no text is read.
 #![tactic(auto)]
 
+mod constants;
 mod laws;
 mod types;
 
-pub use laws::same_types_are_equal;
+pub use constants::{same_const, same_val};
+pub use laws::{same_constants_are_equal, same_types_are_equal};
 pub use types::same_ty;

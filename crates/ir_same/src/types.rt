@@ -22,7 +22,7 @@ pub fn same_ty(a: &Ty, b: &Ty) -> bool
 
 /// Tells whether two types are the same, number for number.
 #[cycle(types)]
-fn equal_ty(a: &Ty, b: &Ty) -> bool
+pub fn equal_ty(a: &Ty, b: &Ty) -> bool
     ensures { IsTrue result ↔ (numbered_ty a.now ≡ numbered_ty b.now) }
 {
     match (a, b) {
