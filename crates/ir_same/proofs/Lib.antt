@@ -2,3 +2,4 @@ pub mod Rows
 pub mod Numbers
 pub mod TypeNumbers
 pub mod ConstNumbers
+pub mod SameRows

@@ -10,4 +10,4 @@ mod types;
 
 pub use constants::{same_const, same_val};
 pub use laws::{same_constants_are_equal, same_types_are_equal};
-pub use types::same_ty;
+pub use types::{same_ty, same_tys};

@@ -1,7 +1,7 @@
 //! Types that are the same.
 
 ghost use Rattle.std.specs.Prelude.{◌≡◌, ◌↔◌, List, ℕ, length, true, IsTrue, map};
-ghost use Rattle.std.specs.List.{IsDistinct};
+ghost use Rattle.std.specs.List.{IsDistinct, list_all};
 ghost use Rattle.std.specs.Str.{bytes_eq};
 ghost use Rattle.ir_tree.specs.Known.{ty_known};
 ghost use Rattle.ir_tree.specs.ShapeOf.{ty_shape};
@@ -18,6 +18,18 @@ pub fn same_ty(a: &Ty, b: &Ty) -> bool
         IsTrue result ↔ (ty_shape names a.now ≡ ty_shape names b.now) }
 {
     equal_ty(a, b)
+}
+
+/// Tells whether the types of two rows are the same.
+///
+/// This holds under each table of distinct names that has the names of all.
+pub fn same_tys(row: &[Ty], others: &[Ty]) -> bool
+    ensures { (names : List (List ℕ)) → IsDistinct bytes_eq names →
+        list_all (ty_known (length names)) row.now ≡ true →
+        list_all (ty_known (length names)) others.now ≡ true →
+        IsTrue result ↔ (map (ty_shape names) row.now ≡ map (ty_shape names) others.now) }
+{
+    equal_tys(row, others)
 }
 
 /// Tells whether two types are the same, number for number.
