@@ -74,10 +74,17 @@ symbol_at m (declare_at k) = option_map (λ d. d.name) (slice_get m.declares k)
 symbol_at m (function_at k) = option_map (λ f. f.name) (slice_get m.functions k)
 symbol_at m (inst_at_place f b i) = None
 
+-- the declared function at a place
+abbrev pub declared_at : ModuleShape → Place → Option DeclareShape
+declared_at m (type_at k) = None
+declared_at m (global_at k) = None
+declared_at m (declare_at k) = slice_get m.declares k
+declared_at m (function_at k) = None
+declared_at m (inst_at_place f b i) = None
+
 -- two functions are declared with the same types
 abbrev pub AreTwins : ModuleShape → Place → Place → Type 0
-AreTwins m x y = (j k : ℕ) × (d e : DeclareShape) × (x ≡ declare_at j) × (y ≡ declare_at k) × (slice_get m.declares j ≡ Some d)
-    × (slice_get m.declares k ≡ Some e) × (d.ret ≡ e.ret) × (d.params ≡ e.params)
+AreTwins m x y = (d e : DeclareShape) × (declared_at m x ≡ Some d) × (declared_at m y ≡ Some e) × (d.ret ≡ e.ret) × (d.params ≡ e.params)
 
 -- two items have one name
 pub data Clash (m : ModuleShape) (x y : Place) : Type 0 where
