@@ -1,0 +1,3 @@
+pub mod GivenFirsts
+pub mod GivenSeen
+pub mod GivenPlaces
