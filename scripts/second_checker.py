@@ -723,7 +723,7 @@ def can_step(module, ty, indices):
 
 
 def has_type(module, ty, value, in_global):
-    """A constant has a type. The operand of an instruction is an integer or an address; a global may be more."""
+    """A constant has a type. In a global alone stand aggregates, and there alone `undef` and its like are of any type."""
     if value[0] == "int":
         return is_in_range(ty, value[1])
     if value[0] == "bool":
@@ -734,13 +734,13 @@ def has_type(module, ty, value, in_global):
         return module.is_sized(ty) if in_global else is_value_type(ty)
     if value[0] == "address":
         return ty == PTR and is_address(module, *value[1:])
+    if value[0] == "text":
+        return module.opened(ty) == ("array", value[1], I8)
     return in_global and has_structure(module, module.opened(ty), value)
 
 
 def has_structure(module, ty, value):
-    """A text or an aggregate has an opened type: part by part, each part of the type that is stated for it."""
-    if value[0] == "text":
-        return ty == ("array", value[1], I8)
+    """An aggregate has an opened type: part by part, each part of the type that is stated for it."""
     stated, wanted = [part for part, _ in value[-1]], None
     if value[0] == ty[0] == "array" and ty[1] == len(stated):
         wanted = [ty[2]] * ty[1]
