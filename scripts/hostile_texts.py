@@ -197,6 +197,8 @@ def run(folder, text):
 def main():
     if len(sys.argv) < 2 or sys.argv[2:] not in ([], ["run"]):
         sys.exit(__doc__)
+    if len(sys.argv) == 3 and not PROGRAM.exists():
+        sys.exit(f"{PROGRAM} isn't built")
     folder, answers, wrong = Path(sys.argv[1]), [], 0
     folder.mkdir(parents=True, exist_ok=True)
     for name, text, answer in (made for kind in KINDS for made in kind()):
