@@ -15,8 +15,10 @@ import tempfile
 from collections import Counter
 from pathlib import Path
 
-import second_checker as second
-from second_checker import I1, I8, I32, PTR, VOID
+from second_checker import answer_and_rule
+from second_reader import (
+    BINARY, CONVERSIONS, EXACT, I1, I8, I32, INSTRUCTIONS, INTEGER_TYPES, PREDICATES, PTR, VOID, WRAPPING,
+)
 
 PROGRAM = Path(__file__).resolve().parent.parent / "crates/rows_checks/out/rows_checks"
 WIDTHS = (1, 7, 8, 8, 16, 24, 32, 32, 33, 63, 64, 64)
@@ -59,9 +61,8 @@ class Maker:
         for number in range(rng.randrange(5)):
             self.globals[self.name("g", number)] = self.ty(3)
         for number in range(rng.randrange(1, 4)):
-            self.functions[rng.choice(["main", "putchar", "f1", "f2", "f 3"]) if rng.random() < 0.5 else f"f{number}"] = (
-                self.signature()
-            )
+            name = rng.choice(["main", "putchar", "f 1"]) if rng.random() < 0.4 else f"f{number}"
+            self.functions[name] = self.signature()
         for name, types in (("putchar", (I32, [I32])), ("getchar", (I32, []))):
             if name not in self.functions and rng.random() < 0.7:
                 self.declares[name] = types
@@ -205,12 +206,12 @@ class Maker:
 
     def plan(self, is_entry):
         """The word of an instruction, the types that it has, and the type of its result or `void`."""
-        word = self.rng.choice([w for w in second.INSTRUCTIONS if w != "alloca" or is_entry])
-        if word in second.CONVERSIONS:
+        word = self.rng.choice([w for w in INSTRUCTIONS if w != "alloca" or is_entry])
+        if word in CONVERSIONS:
             narrow, wide = sorted(self.rng.sample(sorted(set(WIDTHS)), 2))
             types = (("i", wide), ("i", narrow)) if word == "trunc" else (("i", narrow), ("i", wide))
             return word, types, types[1]
-        if word in second.BINARY:
+        if word in BINARY:
             ty = self.integer()
             return word, ty, ty
         if word == "call":
@@ -228,16 +229,16 @@ class Maker:
 
     def inst(self, word, what):
         """The tokens of an instruction, without its result."""
-        flags = ["nuw", "nsw"] if word in (*second.WRAPPING, "trunc") else ["exact"] if word in second.EXACT else []
+        flags = ["nuw", "nsw"] if word in (*WRAPPING, "trunc") else ["exact"] if word in EXACT else []
         flags = ["inbounds", "nuw"] if word == "getelementptr" else flags
         head = [word, *self.rng.sample(flags, self.rng.randrange(len(flags) + 1))]
         if word == "phi":
             inputs = [["[", *self.operand(what), ",", *self.label()[1:], "]"] for _ in range(self.rng.randrange(1, 4))]
             return [*head, *self.ty_tokens(what), *listed(inputs)]
-        if word in second.CONVERSIONS:
+        if word in CONVERSIONS:
             return [*head, *self.typed(what[0]), "to", *self.ty_tokens(what[1])]
-        if word in second.BINARY or word == "icmp":
-            head += [self.rng.choice(second.PREDICATES)] if word == "icmp" else []
+        if word in BINARY or word == "icmp":
+            head += [self.rng.choice(PREDICATES)] if word == "icmp" else []
             return [*head, *listed([self.typed(what), self.operand(what)])]
         if word == "call":
             ret, params = self.callees[what]
@@ -361,7 +362,7 @@ def replaced(rng, lines, is_fitting, others):
     if not (place := one_token(rng, lines, is_fitting)):
         return lines
     line, at = place
-    return [[*toks[:at], rng.choice(others), *toks[at + 1 :]] if number == line else toks for number, toks in enumerate(lines)]
+    return [*lines[:line], [*lines[line][:at], rng.choice(others), *lines[line][at + 1 :]], *lines[line + 1 :]]
 
 
 def all_tokens(lines, mark):
@@ -369,7 +370,7 @@ def all_tokens(lines, mark):
 
 
 def other_type(rng, lines):
-    words = ("ptr", "void", *second.INTEGER_TYPES)
+    words = ("ptr", "void", *INTEGER_TYPES)
     named = all_tokens([toks[:1] for toks in lines if "type" in toks[2:3]], "%")
     return replaced(rng, lines, lambda token: token in words, ["ptr", "void", "i1", "i8", "i9", "i32", "i64", *named])
 
@@ -390,8 +391,9 @@ def other_label(rng, lines):
 
 
 def other_number(rng, lines):
-    numbers = [sign * 2**power + step for power in (0, 7, 8, 30, 31, 32, 63, 64, 126) for sign in (1, -1) for step in (-1, 0, 1)]
-    return replaced(rng, lines, lambda token: token.lstrip("-").isdigit(), list(map(str, numbers)))
+    powers = [2**power for power in (0, 7, 8, 30, 31, 32, 63, 64, 126)]
+    numbers = [str(sign * power + step) for power in powers for sign in (1, -1) for step in (-1, 0, 1)]
+    return replaced(rng, lines, lambda token: token.lstrip("-").isdigit(), numbers)
 
 
 def other_constant(rng, lines):
@@ -401,7 +403,7 @@ def other_constant(rng, lines):
 
 
 def other_word(rng, lines):
-    return replaced(rng, lines, lambda token: token in second.CONVERSIONS, second.CONVERSIONS)
+    return replaced(rng, lines, lambda token: token in CONVERSIONS, CONVERSIONS)
 
 
 def other_brackets(rng, lines):
@@ -482,7 +484,7 @@ def broken(rng, times):
     found = []
     while len(found) < WAYS:
         row = text_of(rng, rng.choice(BREAKS)(rng, Maker(rng).lines()))
-        answer, rule = second.answer_and_rule(expanded(row))
+        answer, rule = answer_and_rule(expanded(row))
         if rule:
             found.append((row, answer, rule))
     return min(found, key=lambda made: times[made[2]])
@@ -491,7 +493,7 @@ def broken(rng, times):
 def right(rng):
     """A row in which no rule is broken, with its answer."""
     row = text_of(rng, Maker(rng).lines())
-    answer, rule = second.answer_and_rule(expanded(row))
+    answer, rule = answer_and_rule(expanded(row))
     if answer != "ok":
         sys.exit(f"what was made right is answered with {answer}, {rule}:\n{row}")
     return row, answer, rule
