@@ -1,3 +1,9 @@
+pub mod Lists
+pub mod Firsts
+pub mod Clashing
+pub mod Known
 pub mod GivenFirsts
 pub mod GivenSeen
 pub mod GivenPlaces
+pub mod Standing
+pub mod Faulty

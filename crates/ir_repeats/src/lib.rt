@@ -1,7 +1,10 @@
 //! Names that are given twice: by items of a module, and in a function.
 #![tactic(auto)]
 
+mod clashes;
+mod entries;
 mod first;
 mod given;
 
+pub use clashes::first_item_clash;
 pub use given::first_repeat;
