@@ -1,8 +1,8 @@
 -- The values of a function as code has them, and their types.
-use Rattle.std.specs.Prelude.{ℕ, Bool, List, option_map}
+use Rattle.std.specs.Prelude.{◌≡◌, ℕ, Bool, true, List, option_map}
 use Rattle.ir_tree.specs.Shape.{TyShape, integer, pointer, void}
 use Rattle.ir_tree.specs.ShapeOf.{ty_shape, name_shape}
-use Rattle.ir_tree.specs.Known.{result_known}
+use Rattle.ir_tree.specs.Known.{result_known, ty_known}
 use Rattle.ir_rules.specs.Values.{ValueShape}
 use Rattle.ir_names.specs.declared.results.ResultTy.{ResultTy}
 use Rattle.ir_names.specs.declared.results.ResultTy.TheVariants.{Stated, Bit, Address, Nothing}
@@ -14,6 +14,13 @@ result_shape names (Stated ty) = ty_shape names ty.now
 result_shape names Bit = integer 1
 result_shape names Address = pointer
 result_shape names Nothing = void
+
+-- its names are below the count
+abbrev pub IsKnownResult : ℕ → ResultTy → Type 0
+IsKnownResult count (Stated ty) = ty_known count ty.now ≡ true
+IsKnownResult count Bit = Unit {0}
+IsKnownResult count Address = Unit {0}
+IsKnownResult count Nothing = Unit {0}
 
 -- a value's shape
 abbrev pub value_shape : List (List ℕ) → Value → ValueShape

@@ -1,9 +1,10 @@
 //! The types of what instructions give.
 
-ghost use Rattle.std.specs.Prelude.{◌≡◌, List, ℕ};
+ghost use Rattle.std.specs.Prelude.{◌≡◌, List, ℕ, true};
+ghost use Rattle.ir_tree.specs.Known.{body_known};
 ghost use Rattle.ir_tree.specs.ShapeOf.{body_shape};
 ghost use Rattle.ir_rules.specs.Values.{result_ty as result_ty_of, is_void};
-ghost use Rattle.ir_names.specs.Results.{result_shape};
+ghost use Rattle.ir_names.specs.Results.{result_shape, IsKnownResult};
 
 use ir_tree::module::Body;
 use ir_tree::types::Ty;
@@ -23,8 +24,9 @@ pub enum ResultTy<'a> {
 
 /// Returns the type of what an instruction gives; one that gives nothing has `void`.
 pub fn result_ty(body: &Body) -> ResultTy
-    ensures { (names : List (List ℕ)) →
+    ensures shape { (names : List (List ℕ)) →
         result_shape names result ≡ result_ty_of (body_shape names body.now) }
+    ensures known { (count : ℕ) → body_known count body.now ≡ true → IsKnownResult count result }
 {
     match body {
         Body::Phi(ty, _) => ResultTy::Stated(ty),

@@ -12,5 +12,6 @@ pub use consts::{is_plain, number_of};
 pub use numbers::{bits_of, converts, is_literal};
 pub use sizes::{has_room, is_sized};
 pub use types::{
-    is_bit, is_integer, is_integer_of, is_pointer, is_returned, is_scalar, is_storable, is_void,
+    integer_width, is_bit, is_integer, is_integer_of, is_pointer, is_returned, is_scalar,
+    is_storable, is_void,
 };

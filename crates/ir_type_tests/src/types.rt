@@ -1,6 +1,6 @@
 //! Tests of types.
 
-ghost use Rattle.std.specs.Prelude.{◌≡◌, ◌↔◌, List, ℕ, IsTrue};
+ghost use Rattle.std.specs.Prelude.{◌≡◌, ◌↔◌, ◌≤◌, List, ℕ, IsTrue, IfSome, IfNone};
 ghost use Rattle.ir_tree.specs.Shape.{integer, pointer, void};
 ghost use Rattle.ir_tree.specs.ShapeOf.{ty_shape};
 ghost use Rattle.ir_rules.specs.Constants.{IsInteger, IsScalar};
@@ -16,6 +16,18 @@ pub fn is_integer(ty: &Ty) -> bool
     match ty {
         Ty::Int(bits) => 1 <= *bits && *bits <= 64,
         _ => false,
+    }
+}
+
+/// Returns how many bits an integer of 1 to 64 bits has, or `None` of another type.
+pub fn integer_width(ty: &Ty) -> Option<u8>
+    ensures width { (names : List (List ℕ)) → IfSome result (λ width.
+        (ty_shape names ty.now ≡ integer width) × (1 ≤ width) × (width ≤ 64)) }
+    ensures none { (names : List (List ℕ)) → IfNone result (IsInteger (ty_shape names ty.now) → ⊥) }
+{
+    match ty {
+        Ty::Int(bits) if 1 <= *bits && *bits <= 64 => Some(*bits),
+        _ => None,
     }
 }
 
