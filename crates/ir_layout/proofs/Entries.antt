@@ -34,7 +34,7 @@ some_ty : (t u : Ty) → Some t ≡ Some u → t ≡ u
 some_ty t u e = cc
 
 -- what a number stands for has known names, and the number is known
-number_known : (n : ℕ) (ts : List NamedTy) (id : ℕ) (t : Ty) → list_all (named_ty_known n) ts ≡ true → type_of_number ts id ≡ Some t
+pub number_known : (n : ℕ) (ts : List NamedTy) (id : ℕ) (t : Ty) → list_all (named_ty_known n) ts ≡ true → type_of_number ts id ≡ Some t
     → (ty_known n t ≡ true) × (id < n)
 number_known n [] id t known e = cc
 number_known n (x ∷ ts) id t known e =
@@ -105,7 +105,7 @@ number_at names x ts name u false is e rest =
     ] in
     (later.0, later.1, later.2, first, later.4)
 
-stands_number : (names : List (List ℕ)) (ts : List NamedTy) (name : List ℕ) (u : TyShape) → named_ty (map (named_ty_shape names) ts) name ≡ Some u
+pub stands_number : (names : List (List ℕ)) (ts : List NamedTy) (name : List ℕ) (u : TyShape) → named_ty (map (named_ty_shape names) ts) name ≡ Some u
     → HasNumber names ts name u
 stands_number names [] name u e = cc
 stands_number names (x ∷ ts) name u e =

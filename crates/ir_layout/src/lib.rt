@@ -14,5 +14,6 @@ pub use laws::{
     fields_lie_apart, layouts_are_regular, layouts_come_of_parts, types_have_one_layout,
     what_types_hold_has_a_layout,
 };
+pub use order::{first_types, type_of};
 pub use sizes::{Layout, MOST_SIZE};
 pub use table::Layouts;

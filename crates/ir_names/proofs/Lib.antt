@@ -1,0 +1,4 @@
+pub mod FirstItems
+pub mod NumberedNames
+pub mod AllKnown
+pub mod Entered

@@ -1,0 +1,4 @@
+pub mod Numbers
+pub mod Results
+pub mod Tables
+pub mod Scopes

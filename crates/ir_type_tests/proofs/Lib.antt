@@ -1,0 +1,6 @@
+pub mod Rests
+mod Shapes
+mod Sized
+mod Apart
+mod AreCases
+pub mod Both
