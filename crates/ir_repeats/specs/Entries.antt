@@ -21,15 +21,19 @@ entries_from name kind k [] spots = []
 entries_from name kind k (x ∷ xs) [] = []
 entries_from name kind k (x ∷ xs) (s ∷ spots) = record { name = name x; item = kind k; spot = s } ∷ entries_from name kind (k + 1) xs spots
 
+-- the named types
 abbrev pub type_entries : Parsed → List Entry
 type_entries p = entries_from (λ (t : NamedTy). t.name) (λ k. item.Type k) 0 p.«module».types.items p.spots.types.items
 
+-- the globals
 abbrev pub global_entries : Parsed → List Entry
 global_entries p = entries_from (λ (g : GlobalItem). g.name) (λ k. item.Global k) 0 p.«module».globals.items p.spots.globals.items
 
+-- the declared functions
 abbrev pub declare_entries : Parsed → List Entry
 declare_entries p = entries_from (λ (d : Declare). d.name) (λ k. item.Declare k) 0 p.«module».declares.items p.spots.declares.items
 
+-- the defined functions
 abbrev pub function_entries : Parsed → List Entry
 function_entries p = entries_from (λ (f : Function). f.name) (λ k. item.Function k) 0 p.«module».functions.items p.spots.functions.items
 
@@ -79,6 +83,7 @@ AreNamedBelow count entries = (j : ℕ) (e : Entry) → slice_get entries j ≡ 
 abbrev pub MayShare : Module → Item → Item → Type 0
 MayShare m one other = (one ≡ other) ⊎ AreTwins (module_shape m) (place_of one) (place_of other)
 
+-- an entry is one of a list
 abbrev pub IsAmong : List Entry → Entry → Type 0
 IsAmong entries e = (j : ℕ) × (slice_get entries j ≡ Some e)
 

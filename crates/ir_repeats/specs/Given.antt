@@ -17,6 +17,7 @@ pub record GivenId : Type 0 where
   pub number : ℕ
   pub spot : ℕ
 
+-- the name that is given at an offset, if one is
 abbrev pub given_id : Option NameId → ℕ → List GivenId
 given_id None spot = []
 given_id (Some id) spot = record { number = id.0; spot = spot } ∷ []
@@ -33,6 +34,7 @@ ids_of_insts insts spots = flat_map (λ (p : Inst × ℕ). given_id p.0.result p
 abbrev pub ids_of_block : ℕ → Block → List ℕ → List GivenId
 ids_of_block spot b spots = record { number = b.name.0; spot = spot } ∷ ids_of_insts b.insts.items spots
 
+-- the names that blocks give
 abbrev pub ids_of_blocks : ℕ → List Block → List (Vec ℕ Global) → List GivenId
 ids_of_blocks spot blocks spots = flat_map (λ (p : Block × Vec ℕ Global). ids_of_block spot p.0 p.1.items) (zip blocks spots)
 

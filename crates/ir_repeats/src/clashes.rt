@@ -19,7 +19,8 @@ use std::alloc::{AllocError, Global};
 /// Tells whether two functions are declared with the same types.
 fn are_alike(one: &Declare, other: &Declare) -> bool
     ensures { (names : List (List ℕ)) → IsDistinct bytes_eq names →
-        declare_known (length names) one.now ≡ true → declare_known (length names) other.now ≡ true →
+        declare_known (length names) one.now ≡ true →
+        declare_known (length names) other.now ≡ true →
         IsTrue result ↔ AreAlike (declare_shape names one.now) (declare_shape names other.now) }
 {
     same_ty(&one.ret, &other.ret) && same_tys(&one.params, &other.params)
@@ -71,7 +72,8 @@ fn earliest(
 ) -> Result<Vec<Option<usize>>, AllocError>
     requires below { AreNamedBelow count entries.now }
     ensures long { IfOk result (λ firsts. length firsts.items ≡ count) }
-    ensures firsts { IfOk result (λ firsts. AreEarliest entries.now (length entries.now) firsts.items) }
+    ensures firsts { IfOk result
+        (λ firsts. AreEarliest entries.now (length entries.now) firsts.items) }
 {
     let mut firsts = vec![in alloc; None; count]?;
     for at in 0..entries.len() {

@@ -67,14 +67,16 @@ abbrev pub Walks : List NamedTyShape → TyShape → List (Option ℤ) → Type 
 Walks ts t [] = Unit {0}
 Walks ts t (index ∷ indices) = (u : TyShape) × StepsBy ts index t u × Walks ts u indices
 
--- the same, behind a first index that steps from one value of the type to others beside it
+-- the same, after a first index that steps from one value of the type to others beside it
 abbrev pub WalksBehind : List NamedTyShape → TyShape → List (Option ℤ) → Type 0
 WalksBehind ts t [] = Unit {0}
 WalksBehind ts t (index ∷ indices) = Walks ts t indices
 
+-- the number of a constant with its type, if it is one
 abbrev pub typed_number : TypedShape → Option ℤ
 typed_number (typed t c) = const_number c
 
+-- the numbers of constants in a row
 abbrev pub row_numbers : TypedShapes → List (Option ℤ)
 row_numbers no_values = []
 row_numbers (values v vs) = typed_number v ∷ row_numbers vs

@@ -41,6 +41,7 @@ Changes conv.Zext from to = from < to
 Changes conv.Sext from to = from < to
 Changes conv.Trunc from to = to < from
 
+-- a conversion leads from one integer type to the other
 abbrev pub Converts : Conv → TyShape → TyShape → Type 0
 Converts conversion t u = (from to : ℕ) × (t ≡ integer from) × (u ≡ integer to) × Changes conversion from to
 
@@ -53,6 +54,7 @@ abbrev pub val_number : ValShape → Option ℤ
 val_number (local name) = None
 val_number (fixed c) = const_number c
 
+-- an index is an integer of the type stated with it
 abbrev pub IsStep : Around → TyValShape → Type 0
 IsStep a x = IsInteger x.ty × Fits a x
 

@@ -22,18 +22,22 @@ pub record GivenName : Type 0 where
   pub name : List ℕ
   pub place : Place
 
+-- the name that is given at a place, if one is
 abbrev pub given : Option (List ℕ) → Place → List GivenName
 given None place = []
 given (Some name) place = record { name = name; place = place } ∷ []
 
+-- the names that parameters give
 abbrev pub given_by_params : ℕ → List ParamShape → List GivenName
 given_by_params k [] = []
 given_by_params k (p ∷ ps) = given p.name (function_at k) ++ given_by_params k ps
 
+-- the names that the instructions of a block give, where the first has this number
 abbrev pub given_by_insts : ℕ → ℕ → ℕ → List InstShape → List GivenName
 given_by_insts k b i [] = []
 given_by_insts k b i (x ∷ xs) = given x.result (inst_at_place k b i) ++ given_by_insts k b (i + 1) xs
 
+-- the labels of blocks and the names that their instructions give, where the first block has this number
 abbrev pub given_by_blocks : ℕ → ℕ → List BlockShape → List GivenName
 given_by_blocks k b [] = []
 given_by_blocks k b (x ∷ xs) = (record { name = x.name; place = function_at k } ∷ given_by_insts k b 0 x.insts) ++ given_by_blocks k (b + 1) xs

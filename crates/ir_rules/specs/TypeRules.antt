@@ -17,6 +17,7 @@ IsReturned (array count element) = ⊥
 IsReturned (structure row packed) = ⊥
 IsReturned (named name) = ⊥
 
+-- a global has a sized type, and a content of that type
 abbrev pub IsProperGlobal : List NamedTyShape → GlobalShape → Type 0
 IsProperGlobal ts g = IsSized ts g.ty × HasConst ts g.init g.ty
 
@@ -26,12 +27,15 @@ HasOutsideTypes d =
     (d.name ≡ codes "putchar" → (d.ret ≡ integer 32) × (d.params ≡ integer 32 ∷ []))
     × (d.name ≡ codes "getchar" → (d.ret ≡ integer 32) × (d.params ≡ []))
 
+-- a declared function takes integers and addresses, and returns one or nothing
 abbrev pub IsProperDeclare : DeclareShape → Type 0
 IsProperDeclare d = IsReturned d.ret × AllByRecursion IsScalar d.params × HasOutsideTypes d
 
+-- a defined function does the same
 abbrev pub IsProperHead : FunctionShape → Type 0
 IsProperHead f = IsReturned f.ret × AllByRecursion (λ p. IsScalar p.ty) f.params
 
+-- an instruction makes room
 abbrev pub is_alloca : BodyShape → Bool
 is_alloca (phi ty inputs) = false
 is_alloca (binary operation flags ty left right) = false

@@ -45,10 +45,12 @@ unfoldable mutual
   values_uses no_values = []
   values_uses (values v vs) = typed_uses v ++ values_uses vs
 
+-- the names that an operand uses
 abbrev pub val_uses : ValShape → List Use
 val_uses (local name) = as_value name ∷ []
 val_uses (fixed c) = const_uses c
 
+-- those of an operand with its type
 abbrev pub ty_val_uses : TyValShape → List Use
 ty_val_uses x = ty_uses x.ty ++ val_uses x.val
 
@@ -58,12 +60,15 @@ callee_uses (local name) = as_value name ∷ []
 callee_uses (fixed (global name)) = as_callee name ∷ []
 callee_uses (fixed c) = const_uses c
 
+-- those of what a phi takes
 abbrev pub input_uses : PhiInShape → List Use
 input_uses x = val_uses x.val ++ as_block x.from ∷ []
 
+-- those of a case of a switch
 abbrev pub case_uses : CaseShape → List Use
 case_uses x = ty_uses x.ty ++ as_block x.to ∷ []
 
+-- those of an instruction, a line for each
 abbrev pub body_uses : BodyShape → List Use
 body_uses (phi ty inputs) = ty_uses ty ++ flat_map input_uses inputs
 body_uses (binary operation flags ty left right) = ty_uses ty ++ val_uses left ++ val_uses right
@@ -83,9 +88,11 @@ body_uses return_void = []
 body_uses (return_value value) = ty_val_uses value
 body_uses unreachable = []
 
+-- those of a global
 abbrev pub global_uses : GlobalShape → List Use
 global_uses x = ty_uses x.ty ++ const_uses x.init
 
+-- those of a declared function
 abbrev pub declare_uses : DeclareShape → List Use
 declare_uses x = ty_uses x.ret ++ flat_map ty_uses x.params
 

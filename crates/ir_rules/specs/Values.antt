@@ -27,6 +27,7 @@ result_ty return_void = void
 result_ty (return_value value) = void
 result_ty unreachable = void
 
+-- whether a type is that of nothing
 abbrev pub is_void : TyShape → Bool
 is_void (integer bits) = false
 is_void pointer = false
