@@ -1,25 +1,11 @@
 -- A type opens to one type at most, and an index leads to one at most.
 use Rattle.std.proofs.Common.{◌≡◌, ℕ, ℤ, pos, Bool, List, [], ◌∷◌, Option, Some, refl, sym, ◌∙◌, ap, subst}
 use Rattle.std.specs.Prelude.{◌↔◌}
-use Rattle.ir_tree.specs.Shape.{TyShape, TyShapes, integer, pointer, void, array, structure, named, NamedTyShape}
+use Rattle.ir_tree.specs.Shape.{TyShape, TyShapes, array, structure, named, NamedTyShape}
 use Rattle.ir_layout.specs.Rules.{named_ty}
 use Rattle.ir_rules.specs.Constants.{Opens, is_array, is_structure, is_name, StepsBy, to_element, to_field, row_at, Walks}
 
--- a type that may open to another
-abbrev pub MayOpen : TyShape → Type 0
-MayOpen (integer bits) = ⊥
-MayOpen pointer = ⊥
-MayOpen void = ⊥
-MayOpen (array count element) = Unit {0}
-MayOpen (structure row packed) = Unit {0}
-MayOpen (named name) = Unit {0}
-
-pub may_open : (ts : List NamedTyShape) (t u : TyShape) → Opens ts t u → MayOpen t
-may_open ts t u (is_array count element) = tt
-may_open ts t u (is_structure row packed) = tt
-may_open ts t u (is_name name v w stands opens) = tt
-
--- what each opens to
+-- what an array, a structure and a name open to
 pub array_opens : (ts : List NamedTyShape) (count : ℕ) (element u : TyShape) → Opens ts (array count element) u → u ≡ array count element
 array_opens ts count element u (is_array k t) = refl
 

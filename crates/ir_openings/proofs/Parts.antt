@@ -8,7 +8,7 @@ use Rattle.ir_tree.specs.ShapeOf.{ty_shape}
 use Rattle.ir_tree.specs.Known.{ty_known}
 use Rattle.ir_tree.specs.declared.types.Ty.{Ty}
 use Rattle.ir_tree.specs.declared.types.Ty.TheVariants as types
-use Rattle.ir_tree.proofs.Grows.{and_left, and_right}
+use Rattle.ir_tree.proofs.Grows.{and_left, and_right, and_both}
 use Rattle.ir_rules.specs.Constants.{Opens, is_array, is_structure, StepsBy, to_element, to_field, row_at}
 use Rattle.ir_openings.proofs.Types.{array_shape, structure_shape, structure_known}
 use Rattle.ir_openings.proofs.Once.{structure_opens}
@@ -52,17 +52,19 @@ structure_steps names number t u v packed e (k, is, there) =
     subst (λ (z : TyShape). StepsBy [] number z (ty_shape names u)) (sym shape)
     (to_field (structure row packed) row packed k (ty_shape names u) (is_structure row packed) is (field_shape names v.items k u there))
 
+-- what passes when it is mapped passes
+all_mapped : {A : Type 0} (p : A → Bool) (xs : List A) → list_all (λ b. b) (map p xs) ≡ true → list_all p xs ≡ true
+all_mapped p [] h = refl
+all_mapped p (x ∷ xs) h = and_both (and_left _ _ h) (all_mapped p xs (and_right _ _ h))
+
+-- the names of a structure's fields are known where its own are
+pub fields_known : (n : ℕ) (t : Ty) (v : Vec Ty Global) (packed : Bool) → t ≡ types.Struct v packed → ty_known n t ≡ true
+    → list_all (ty_known n) v.items ≡ true
+fields_known n t v packed e known = all_mapped (ty_known n) v.items (sym (ap (ty_known n) e ∙ structure_known n v packed) ∙ known)
+
 pub field_known : (n : ℕ) (number : Option ℤ) (t u : Ty) (v : Vec Ty Global) (packed : Bool) → t ≡ types.Struct v packed → ty_known n t ≡ true
     → IsField v.items number u → ty_known n u ≡ true
-field_known n number t u v packed e known (k, is, there) =
-    all_at (ty_known n) v.items k u (all_mapped v.items (sym (ap (ty_known n) e ∙ structure_known n v packed) ∙ known)) there
-  where
-    all_mapped : (ts : List Ty) → list_all (λ b. b) (map (ty_known n) ts) ≡ true → list_all (ty_known n) ts ≡ true
-    all_mapped [] h = refl
-    all_mapped (x ∷ ts) h =
-        let first = and_left (ty_known n x) _ h in
-        let rest = all_mapped ts (and_right (ty_known n x) _ h) in
-        rw first rest
+field_known n number t u v packed e known (k, is, there) = all_at (ty_known n) v.items k u (fields_known n t v packed e known) there
 
 rows_equal : (row r : TyShapes) (packed p : Bool) → structure row packed ≡ structure r p → row ≡ r
 rows_equal row r packed p e = cc

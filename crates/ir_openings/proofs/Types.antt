@@ -3,7 +3,7 @@ use Rattle.std.proofs.Common.{◌≡◌, ℕ, Bool, List, map, nat_lt, sym, ap, 
 use Rattle.std.specs.declared.alloc.Global.{Global}
 use Rattle.std.specs.List.{list_all}
 use Rattle.ir_tree.specs.NameTable.{text_of}
-use Rattle.ir_tree.specs.Shape.{TyShape, integer, pointer, void, array, structure, named, ty_row}
+use Rattle.ir_tree.specs.Shape.{TyShape, array, structure, named, ty_row}
 use Rattle.ir_tree.specs.ShapeOf.{ty_step, ty_shape}
 use Rattle.ir_tree.specs.Known.{ty_known_step, ty_known}
 use Rattle.ir_tree.specs.declared.names.NameId.{NameId}
@@ -20,15 +20,6 @@ layer_shape names t = fold_out-Ty TyShape (ty_step names) t
 pub layer_known : (n : ℕ) (t : Ty) → ty_known n t ≡ ty_known_step n (map-Ty Ty Bool (ty_known n) (out-Ty t))
 layer_known n t = fold_out-Ty Bool (ty_known_step n) t
 
-pub integer_shape : (names : List (List ℕ)) (bits : ℕ) → ty_shape names (types.Int bits) ≡ integer bits
-integer_shape names bits = ap (ty_shape names) (sym (types.rolls-Int bits)) ∙ fold-roll-Ty TyShape (ty_step names) (ty.Int bits)
-
-pub pointer_shape : (names : List (List ℕ)) → ty_shape names types.Ptr ≡ pointer
-pointer_shape names = ap (ty_shape names) (sym types.rolls-Ptr) ∙ fold-roll-Ty TyShape (ty_step names) ty.Ptr
-
-pub void_shape : (names : List (List ℕ)) → ty_shape names types.Void ≡ void
-void_shape names = ap (ty_shape names) (sym types.rolls-Void) ∙ fold-roll-Ty TyShape (ty_step names) ty.Void
-
 pub array_shape : (names : List (List ℕ)) (count : ℕ) (element : Box Ty Global)
     → ty_shape names (types.Array count element) ≡ array count (ty_shape names element.value)
 array_shape names count element =
@@ -41,9 +32,6 @@ structure_shape names v packed =
 
 pub named_shape : (names : List (List ℕ)) (id : NameId) → ty_shape names (types.Named id) ≡ named (text_of names id.0)
 named_shape names id = ap (ty_shape names) (sym (types.rolls-Named id)) ∙ fold-roll-Ty TyShape (ty_step names) (ty.Named id)
-
-pub array_known : (n count : ℕ) (element : Box Ty Global) → ty_known n (types.Array count element) ≡ ty_known n element.value
-array_known n count element = ap (ty_known n) (sym (types.rolls-Array count element)) ∙ fold-roll-Ty Bool (ty_known_step n) (ty.Array count element)
 
 pub structure_known : (n : ℕ) (v : Vec Ty Global) (packed : Bool)
     → ty_known n (types.Struct v packed) ≡ list_all (λ b. b) (map (ty_known n) v.items)
