@@ -29,13 +29,13 @@ use Rattle.ir_names.specs.Tables.{ModuleTable, entry, callee_entry, AreNamesOf, 
 use Rattle.ir_names.proofs.NumberedNames.{same_text, same_place, type_found, HasFirsts, entry_first, chosen_place}
 
 -- the items of a module are known
-types_known : (m : Module) → module_known m ≡ true → list_all (named_ty_known (length m.names)) m.types.items ≡ true
+pub types_known : (m : Module) → module_known m ≡ true → list_all (named_ty_known (length m.names)) m.types.items ≡ true
 types_known m known = and_left _ _ (and_left _ _ (and_left _ _ known))
 
-globals_known : (m : Module) → module_known m ≡ true → list_all (global_known (length m.names)) m.globals.items ≡ true
+pub globals_known : (m : Module) → module_known m ≡ true → list_all (global_known (length m.names)) m.globals.items ≡ true
 globals_known m known = and_right _ _ (and_left _ _ (and_left _ _ known))
 
-declares_known : (m : Module) → module_known m ≡ true → list_all (declare_known (length m.names)) m.declares.items ≡ true
+pub declares_known : (m : Module) → module_known m ≡ true → list_all (declare_known (length m.names)) m.declares.items ≡ true
 declares_known m known = and_right _ _ (and_left _ _ known)
 
 pub functions_known : (m : Module) → module_known m ≡ true → list_all (function_known (length m.names)) m.functions.items ≡ true

@@ -13,6 +13,10 @@ pub data NameFault (p : Parsed) (at : ℕ) : Type 0 where
   clash : (x y : Place) (i j : ℕ) → spot_of p.spots x ≡ Some i → spot_of p.spots y ≡ Some j → Clash (module_shape p.«module») x y → at ≡ max i j
       → NameFault p at
 
+-- a name that is used and isn't there: the first of the three faults
+abbrev pub MissingFault : Parsed → ℕ → Type 0
+MissingFault p at = (place : Place) × (spot_of p.spots place ≡ Some at) × (AreThere (module_shape p.«module») place → ⊥)
+
 -- a rule of types fails at this offset
 abbrev pub TypeFault : Parsed → ℕ → Type 0
 TypeFault p at = (place : Place) × (spot_of p.spots place ≡ Some at) × (HasProperTypes (module_shape p.«module») place → ⊥)
