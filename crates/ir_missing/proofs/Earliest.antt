@@ -1,5 +1,5 @@
 -- The first of the offsets with a fault, of two kinds of faults.
-use Rattle.std.proofs.Common.{◌≡◌, ℕ, ◌+◌, ◌<◌, ◌≤◌, min, ◌⊎◌, inl, inr, Option, Some, None, sym, subst, arith}
+use Rattle.std.proofs.Common.{◌≡◌, ℕ, ◌+◌, ◌<◌, min, ◌⊎◌, inl, inr, Option, Some, None, sym, subst, arith}
 use Rattle.std.proofs.lemmas.Bool.Decides.{eqb_tells}
 use Rattle.ir_rules.specs.Faults.{IsFirst}
 use Rattle.ir_missing.specs.Missing.{earlier}

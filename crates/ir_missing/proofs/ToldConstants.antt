@@ -1,10 +1,10 @@
 -- What the parts of a constant tell of it.
-use Rattle.std.proofs.Common.{◌≡◌, ℕ, Bool, true, List, [], ◌∷◌, ◌++◌, ◌&&◌, map, ap, subst, sym, refl, ◌∙◌, Vec, Box, Option}
+use Rattle.std.proofs.Common.{◌≡◌, ℕ, Bool, true, List, [], ◌∷◌, ◌++◌, ◌&&◌, map, ap, subst, sym, refl, ◌∙◌, Vec, Box}
 use Rattle.std.specs.Prelude.{ℤ, is_some}
 use Rattle.std.specs.List.{list_all, flat_map}
 use Rattle.std.specs.declared.alloc.Global.{Global}
 use Rattle.ir_tree.specs.NameTable.{text_of, IsKnown}
-use Rattle.ir_tree.specs.Shape.{ConstShape, TypedShape, FunctionShape, typed_row, fixed}
+use Rattle.ir_tree.specs.Shape.{ConstShape, TypedShape, typed_row, fixed}
 use Rattle.ir_tree.specs.ShapeOf.{ty_shape, const_step, const_shape, typed_step, typed_shape, name_shape, module_shape}
 use Rattle.ir_tree.specs.Known.{ty_known, const_known_step, const_known, typed_known_step, typed_known, name_known}
 use Rattle.ir_tree.specs.declared.names.NameId.{NameId}
@@ -13,7 +13,7 @@ use Rattle.ir_tree.specs.declared.types.Const.{Const, roll-Const}
 use Rattle.ir_tree.specs.declared.types.Const.TheOpen as constant
 use Rattle.ir_tree.specs.declared.types.Const.TheVariants as constants
 use Rattle.ir_tree.specs.declared.types.Const.TheFolds.{fold-roll-Const, fold-roll-Typed, map-Const, ind-Const}
-use Rattle.ir_tree.specs.declared.types.Typed.{Typed, roll-Typed}
+use Rattle.ir_tree.specs.declared.types.Typed.{Typed}
 use Rattle.ir_tree.specs.declared.module.Module.{Module}
 use Rattle.ir_tree.proofs.Rows.{row_known}
 use Rattle.ir_tree.proofs.Grows.{and_left, and_right, and_both}
@@ -22,7 +22,6 @@ use Rattle.ir_rules.specs.Things.{global_of}
 use Rattle.ir_names.specs.Tables.{ModuleTable, AreNamesOf}
 use Rattle.ir_missing.specs.Tells.{Outside, Tells}
 use Rattle.ir_missing.proofs.Telling.{tells_none, tells_same, tells_one, AllTell}
-use Rattle.ir_missing.proofs.ToldTypes.{TyTells}
 
 -- that the names which a constant uses are there
 abbrev pub ConstTells : ModuleTable → Const → Bool → Type 0

@@ -1,8 +1,8 @@
 -- What the parts of a type tell of it.
-use Rattle.std.proofs.Common.{◌≡◌, ℕ, Bool, true, List, [], ◌∷◌, ◌++◌, map, ap, sym, refl, ◌∙◌, Vec, Box, Option, nat_lt}
-use Rattle.std.specs.List.{list_all, flat_map}
+use Rattle.std.proofs.Common.{◌≡◌, ℕ, Bool, true, List, [], ◌∷◌, ◌++◌, map, ap, sym, refl, ◌∙◌, Vec, Box}
+use Rattle.std.specs.List.{flat_map}
 use Rattle.std.specs.declared.alloc.Global.{Global}
-use Rattle.ir_tree.specs.Shape.{TyShape, FunctionShape, ty_row}
+use Rattle.ir_tree.specs.Shape.{TyShape, ty_row}
 use Rattle.ir_tree.specs.ShapeOf.{ty_step, ty_shape, name_shape, module_shape}
 use Rattle.ir_tree.specs.Known.{ty_known_step, ty_known, name_known}
 use Rattle.ir_tree.specs.declared.names.NameId.{NameId}

@@ -1,7 +1,6 @@
 -- Which names aren't there, place by place, and the earlier of two offsets.
-use Rattle.std.specs.Prelude.{◌≡◌, ℕ, min, Option, Some, None}
+use Rattle.std.specs.Prelude.{◌≡◌, ℕ, min, Option, Some, None, slice_get, Vec}
 use Rattle.std.specs.Option.{option_and_then}
-use Rattle.std.specs.Prelude.{slice_get, Vec}
 use Rattle.std.specs.declared.alloc.Global.{Global}
 use Rattle.ir_tree.specs.ShapeOf.{module_shape}
 use Rattle.ir_tree.specs.declared.parsed.Parsed.{Parsed}

@@ -46,7 +46,7 @@ pub fn callee_there(outside: &ModuleNames, inside: &FunctionNames, callee: &Val)
     }
 }
 
-/// Tells whether the names that a constant uses which is called are there.
+/// Tells whether the names that a called constant uses are there.
 fn called_there(outside: &ModuleNames, value: &Const) -> bool
     ensures { Tells (Outside outside.now) (λ n. const_known n value.now)
         (λ names. callee_uses (fixed (const_shape names value.now))) result }

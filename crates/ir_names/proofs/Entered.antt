@@ -1,5 +1,5 @@
 -- The tables of a module and of a function say what names stand for.
-use Rattle.std.proofs.Common.{◌≡◌, ℕ, zero, suc, ◌+◌, ◌<◌, get_or, ◌++◌, Bool, true, false, List, [], ◌∷◌, length, map, Option, Some, None, refl, sym, ◌∙◌, ap, subst, slice_get, ◌||◌, codes, arith}
+use Rattle.std.proofs.Common.{◌≡◌, ℕ, zero, suc, ◌<◌, get_or, ◌++◌, Bool, true, false, List, [], ◌∷◌, length, map, Option, Some, None, refl, sym, ◌∙◌, ap, subst, slice_get, codes, arith}
 use Rattle.std.specs.Prelude.{not, is_some, if◌then◌else◌}
 use Rattle.std.specs.Option.{option_map}
 use Rattle.std.specs.List.{list_all, position_from, IsDistinct}
@@ -16,16 +16,14 @@ use Rattle.ir_tree.specs.declared.module.NamedTy.{NamedTy}
 use Rattle.ir_tree.specs.declared.module.Block.{Block}
 use Rattle.ir_tree.specs.declared.module.Module.{Module}
 use Rattle.ir_tree.proofs.Grows.{and_left, and_right}
-use Rattle.ir_layout.specs.Rules.{named_ty}
-use Rattle.ir_rules.specs.declared.Callee.{Callee}
-use Rattle.ir_rules.specs.declared.Callee.TheVariants.{Defined, Declared}
-use Rattle.ir_rules.specs.Things.{is_outside_name, outside_of, declare_of, callee_of, function_of, global_of, defined_or}
+use Rattle.ir_rules.specs.declared.Callee.TheVariants.{Declared}
+use Rattle.ir_rules.specs.Things.{is_outside_name, declare_of, callee_of, function_of, global_of, defined_or}
 use Rattle.ir_names.specs.Numbers.{has_number, first_with, defined_id, declared_id}
 use Rattle.ir_rules.specs.declared.Site.{Site}
 use Rattle.ir_rules.specs.Values.{values, has_name}
 use Rattle.ir_names.specs.declared.values.Value.{Value}
 use Rattle.ir_names.specs.Results.{value_shape, value_known}
-use Rattle.ir_names.specs.Tables.{ModuleTable, entry, callee_entry, AreNamesOf, FunctionTable, found, AreNamesIn}
+use Rattle.ir_names.specs.Tables.{ModuleTable, callee_entry, AreNamesOf, FunctionTable, found, AreNamesIn}
 use Rattle.ir_names.proofs.NumberedNames.{same_text, same_place, type_found, HasFirsts, entry_first, chosen_place}
 
 -- the items of a module are known

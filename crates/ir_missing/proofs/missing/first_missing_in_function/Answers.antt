@@ -1,4 +1,4 @@
-use Rattle.std.proofs.Common.{Some, arith, sym, ap, ◌∙◌, length}
+use Rattle.std.proofs.Common.{Some, arith, sym, ap, ◌∙◌}
 use Rattle.std.proofs.lemmas.Option.{slice_get-get_or}
 use Rattle.ir_missing.specs.Missing.{InBlock}
 use Rattle.ir_missing.proofs.Earliest.{first_none, first_more, first_all}

@@ -1,4 +1,4 @@
-use Rattle.std.proofs.Common.{length, sym, ap, None, Some, ◌∙◌, ℕ}
+use Rattle.std.proofs.Common.{length, sym, None, ◌∙◌}
 use Rattle.std.specs.List.{list_all}
 use Rattle.std.proofs.lemmas.Option.{slice_get_read}
 use Rattle.ir_tree.specs.ShapeOf.{module_shape, named_ty_shape}
