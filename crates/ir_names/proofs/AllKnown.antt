@@ -1,5 +1,5 @@
 -- That names are known, of lists that grow.
-use Rattle.std.proofs.Common.{◌≡◌, ℕ, zero, suc, ◌+◌, ◌<◌, Bool, true, List, [], ◌∷◌, ◌++◌, length, refl, ◌∙◌, subst, arith, get_or}
+use Rattle.std.proofs.Common.{◌≡◌, ℕ, zero, suc, ◌<◌, Bool, true, List, [], ◌∷◌, ◌++◌, length, refl, arith, get_or}
 use Rattle.std.specs.List.{list_all}
 use Rattle.ir_tree.proofs.Grows.{and_left, and_right, and_both}
 

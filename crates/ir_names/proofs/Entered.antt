@@ -1,5 +1,5 @@
 -- The tables of a module and of a function say what names stand for.
-use Rattle.std.proofs.Common.{◌≡◌, ℕ, zero, suc, ◌+◌, ◌<◌, get_or, ◌++◌, Bool, true, false, List, [], ◌∷◌, length, map, Option, Some, None, refl, sym, ◌∙◌, ap, subst, slice_get, ◌||◌, codes, arith}
+use Rattle.std.proofs.Common.{◌≡◌, ℕ, zero, suc, ◌<◌, get_or, ◌++◌, Bool, true, false, List, [], ◌∷◌, length, map, Option, Some, None, refl, sym, ◌∙◌, ap, subst, slice_get, codes, arith}
 use Rattle.std.specs.Prelude.{not, is_some, if◌then◌else◌}
 use Rattle.std.specs.Option.{option_map}
 use Rattle.std.specs.List.{list_all, position_from, IsDistinct}
@@ -16,26 +16,24 @@ use Rattle.ir_tree.specs.declared.module.NamedTy.{NamedTy}
 use Rattle.ir_tree.specs.declared.module.Block.{Block}
 use Rattle.ir_tree.specs.declared.module.Module.{Module}
 use Rattle.ir_tree.proofs.Grows.{and_left, and_right}
-use Rattle.ir_layout.specs.Rules.{named_ty}
-use Rattle.ir_rules.specs.declared.Callee.{Callee}
-use Rattle.ir_rules.specs.declared.Callee.TheVariants.{Defined, Declared}
-use Rattle.ir_rules.specs.Things.{is_outside_name, outside_of, declare_of, callee_of, function_of, global_of, defined_or}
+use Rattle.ir_rules.specs.declared.Callee.TheVariants.{Declared}
+use Rattle.ir_rules.specs.Things.{is_outside_name, declare_of, callee_of, function_of, global_of, defined_or}
 use Rattle.ir_names.specs.Numbers.{has_number, first_with, defined_id, declared_id}
 use Rattle.ir_rules.specs.declared.Site.{Site}
 use Rattle.ir_rules.specs.Values.{values, has_name}
 use Rattle.ir_names.specs.declared.values.Value.{Value}
 use Rattle.ir_names.specs.Results.{value_shape, value_known}
-use Rattle.ir_names.specs.Tables.{ModuleTable, entry, callee_entry, AreNamesOf, FunctionTable, found, AreNamesIn}
+use Rattle.ir_names.specs.Tables.{ModuleTable, callee_entry, AreNamesOf, FunctionTable, found, AreNamesIn}
 use Rattle.ir_names.proofs.NumberedNames.{same_text, same_place, type_found, HasFirsts, entry_first, chosen_place}
 
 -- the items of a module are known
-types_known : (m : Module) → module_known m ≡ true → list_all (named_ty_known (length m.names)) m.types.items ≡ true
+pub types_known : (m : Module) → module_known m ≡ true → list_all (named_ty_known (length m.names)) m.types.items ≡ true
 types_known m known = and_left _ _ (and_left _ _ (and_left _ _ known))
 
-globals_known : (m : Module) → module_known m ≡ true → list_all (global_known (length m.names)) m.globals.items ≡ true
+pub globals_known : (m : Module) → module_known m ≡ true → list_all (global_known (length m.names)) m.globals.items ≡ true
 globals_known m known = and_right _ _ (and_left _ _ (and_left _ _ known))
 
-declares_known : (m : Module) → module_known m ≡ true → list_all (declare_known (length m.names)) m.declares.items ≡ true
+pub declares_known : (m : Module) → module_known m ≡ true → list_all (declare_known (length m.names)) m.declares.items ≡ true
 declares_known m known = and_right _ _ (and_left _ _ known)
 
 pub functions_known : (m : Module) → module_known m ≡ true → list_all (function_known (length m.names)) m.functions.items ≡ true

@@ -1,28 +1,19 @@
 -- Looking items up by the numbers of their names, and by the names.
-use Rattle.std.proofs.Common.{◌≡◌, ℕ, ◌+◌, ◌<◌, inl, inr, Bool, true, false, List, [], ◌∷◌, length, map, Option, Some, None, refl, sym, ◌∙◌, ap, subst, slice_get, ◌==◌, cond, ◌||◌, ltb-true, codes}
+use Rattle.std.proofs.Common.{◌≡◌, ℕ, ◌+◌, ◌<◌, inl, inr, Bool, true, false, List, [], ◌∷◌, length, map, Option, Some, None, refl, sym, ◌∙◌, ap, subst, slice_get, ◌==◌, cond, ltb-true}
 use Rattle.std.specs.Prelude.{is_some, if◌then◌else◌, unwrap_or}
-use Rattle.std.specs.Option.{option_map}
 use Rattle.std.specs.List.{list_all, position_from, IsDistinct}
 use Rattle.std.specs.Str.{bytes_eq}
 use Rattle.std.proofs.lemmas.Bool.Decides.{eqb_tells}
 use Rattle.std.proofs.lemmas.Slice.Eq.{bytes_eq-Decides}
 use Rattle.ir_tree.specs.NameTable.{text_of, IsKnown}
 use Rattle.ir_tree.specs.Shape.{TyShape, NamedTyShape}
-use Rattle.ir_tree.specs.ShapeOf.{named_ty_shape, global_shape, declare_shape, function_shape, module_shape}
-use Rattle.ir_tree.specs.Known.{named_ty_known, global_known, declare_known, function_known, module_known}
 use Rattle.ir_tree.specs.declared.names.NameId.{NameId}
-use Rattle.ir_tree.specs.declared.module.Declare.{Declare}
-use Rattle.ir_tree.specs.declared.module.Function.{Function}
-use Rattle.ir_tree.specs.declared.module.Module.{Module}
 use Rattle.ir_tree.proofs.Table.{one_number}
 use Rattle.ir_tree.proofs.Grows.{and_left, and_right}
 use Rattle.ir_layout.specs.Rules.{named_ty}
 use Rattle.ir_layout.proofs.Laid.{text_at}
-use Rattle.ir_rules.specs.declared.Callee.{Callee}
-use Rattle.ir_rules.specs.declared.Callee.TheVariants.{Declared}
-use Rattle.ir_rules.specs.Things.{is_outside_name, outside_of, declare_of, callee_of, function_of, defined_or}
-use Rattle.ir_names.specs.Numbers.{has_number, first_with, defined_id, declared_id}
-use Rattle.ir_names.specs.Tables.{ModuleTable, entry, callee_entry, AreNamesOf}
+use Rattle.ir_names.specs.Numbers.{has_number, first_with}
+use Rattle.ir_names.specs.Tables.{entry}
 
 false_if_not : (b : Bool) → (b ≡ true → ⊥) → b ≡ false
 false_if_not true h = absurd (h refl)

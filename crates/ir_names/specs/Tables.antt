@@ -1,5 +1,5 @@
 -- What the tables of names of a module and of a function have.
-use Rattle.std.specs.Prelude.{◌≡◌, ℕ, List, map, length, Option, None, is_some, slice_get, unwrap_or}
+use Rattle.std.specs.Prelude.{◌≡◌, ℕ, List, map, Option, None, is_some, slice_get, unwrap_or}
 use Rattle.std.specs.Option.{option_map}
 use Rattle.std.specs.Ordering.{nat_cmp}
 use Rattle.std.specs.BTreeMap.{is_at}

@@ -8,10 +8,12 @@ ghost use Rattle.ir_tree.specs.NameTable.{text_of, IsKnown};
 ghost use Rattle.ir_tree.specs.Known.{function_known};
 ghost use Rattle.ir_tree.specs.ShapeOf.{function_shape};
 ghost use Rattle.ir_tree.specs.declared.module.Function.{Function};
-ghost use Rattle.ir_rules.specs.Values.{values, value_of, block_of};
+ghost use Rattle.ir_rules.specs.Values.{values, value_of, block_of, value_ty};
+ghost use Rattle.ir_names.specs.Results.{result_shape};
 ghost use Rattle.ir_names.specs.Tables.{AreNamesIn};
 
 use crate::firsts::first_of_some;
+use crate::results::{ResultTy, type_of_site};
 use crate::values::{Value, values_of};
 use ir_rules::Site;
 use ir_tree::module::{Block, Function};
@@ -94,6 +96,21 @@ impl FunctionNames {
             result ≡ option_map (λ v. v.site) (slice_get (values (function_shape names f)) value) }
     {
         self.sites.get(value).copied()
+    }
+
+    /// Returns the type of the value that a name stands for, where these are the names of the function.
+    pub fn type_of<'a>(&self, f: &'a Function, id: NameId) -> Option<ResultTy<'a>>
+        ensures { (names : List (List ℕ)) → AreNamesIn names f.now self.now → IsKnown names id.0 →
+            option_map (result_shape names) result
+            ≡ value_ty (function_shape names f.now) (text_of names id.0) }
+    {
+        match self.value_of(id) {
+            Some(value) => match self.site_of(value) {
+                Some(site) => type_of_site(f, site),
+                None => None,
+            },
+            None => None,
+        }
     }
 }
 

@@ -14,5 +14,5 @@ mod values;
 
 pub use function::FunctionNames;
 pub use module::ModuleNames;
-pub use results::{ResultTy, result_ty};
+pub use results::{ResultTy, inst_at, result_ty, type_of_site};
 pub use scopes::Scopes;

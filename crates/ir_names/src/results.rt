@@ -1,12 +1,14 @@
 //! The types of what instructions give.
 
-ghost use Rattle.std.specs.Prelude.{◌≡◌, List, ℕ, true};
+ghost use Rattle.std.specs.Prelude.{◌≡◌, List, ℕ, option_copied, true};
+ghost use Rattle.std.specs.Option.{option_map};
 ghost use Rattle.ir_tree.specs.Known.{body_known};
-ghost use Rattle.ir_tree.specs.ShapeOf.{body_shape};
-ghost use Rattle.ir_rules.specs.Values.{result_ty as result_ty_of, is_void};
+ghost use Rattle.ir_tree.specs.ShapeOf.{body_shape, inst_shape, function_shape};
+ghost use Rattle.ir_rules.specs.Values.{result_ty as result_ty_of, is_void, inst_at as inst_at_of, site_ty};
 ghost use Rattle.ir_names.specs.Results.{result_shape, IsKnownResult};
 
-use ir_tree::module::Body;
+use ir_rules::Site;
+use ir_tree::module::{Body, Function, Inst};
 use ir_tree::types::Ty;
 
 /// The type of what an instruction gives.
@@ -46,6 +48,34 @@ pub fn result_ty(body: &Body) -> ResultTy
         | Body::RetVoid
         | Body::Ret(_)
         | Body::Unreachable => ResultTy::Nothing,
+    }
+}
+
+/// Returns the type of what a parameter or an instruction of a function gives, if it is there.
+pub fn type_of_site(f: &Function, site: Site) -> Option<ResultTy>
+    ensures { (names : List (List ℕ)) →
+        option_map (result_shape names) result ≡ site_ty (function_shape names f.now) site }
+{
+    match site {
+        Site::Param(k) => match f.params.get(k) {
+            Some(param) => Some(ResultTy::Stated(&param.ty)),
+            None => None,
+        },
+        Site::Inst(b, i) => match inst_at(f, b, i) {
+            Some(inst) => Some(result_ty(&inst.body)),
+            None => None,
+        },
+    }
+}
+
+/// Returns the instruction of the second number in the block of the first, if it is there.
+pub fn inst_at(f: &Function, b: usize, i: usize) -> Option<&Inst>
+    ensures { (names : List (List ℕ)) → option_map (inst_shape names) (option_copied result)
+        ≡ inst_at_of (function_shape names f.now) b i }
+{
+    match f.blocks.get(b) {
+        Some(block) => block.insts.get(i),
+        None => None,
     }
 }
 

@@ -25,7 +25,8 @@ pub struct Value {
 /// Appends the parameters.
 fn push_params(params: &[Param], to: &mut Vec<Value>) -> Result<(), AllocError>
     ensures shape { OnOk result ((names : List (List ℕ)) → map (value_shape names) to.new.items
-        ≡ map (value_shape names) to.old.items ++ params_from 0 (map (param_shape names) params.now)) }
+        ≡ map (value_shape names) to.old.items
+        ++ params_from 0 (map (param_shape names) params.now)) }
     ensures known { OnOk result ((count : ℕ) → list_all (value_known count) to.old.items ≡ true →
         list_all (param_known count) params.now ≡ true →
         list_all (value_known count) to.new.items ≡ true) }

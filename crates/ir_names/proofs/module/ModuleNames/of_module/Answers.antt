@@ -1,4 +1,3 @@
-use Rattle.std.proofs.Common.{length}
 use Rattle.ir_names.specs.Numbers.{defined_id, declared_id}
 use Rattle.ir_names.proofs.Entered.{made_of, module_entered}
 use Rattle.ir_names.proofs.module.ModuleNames.of_module.Goals as goal

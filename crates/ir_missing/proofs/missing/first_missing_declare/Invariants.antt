@@ -1,0 +1,8 @@
+use Rattle.ir_rules.specs.Places.{declare_at}
+use Rattle.ir_rules.specs.Faults.{IsFirst}
+use Rattle.ir_missing.specs.Missing.{IsMissing}
+use Rattle.ir_missing.proofs.Earliest.{Below}
+use Rattle.ir_missing.proofs.missing.first_missing_declare.Given as goal
+
+abbrev pub invariant-loop-k : goal.invariant-loop-k
+invariant-loop-k l = IsFirst (Below (λ j at. IsMissing l.p (declare_at j) at) l.k) l.first
