@@ -29,10 +29,6 @@ pub record ClashFault (p : Parsed) (at : ℕ) : Type 0 where
 abbrev pub NameFault : Parsed → ℕ → Type 0
 NameFault p at = MissingFault p at ⊎ RepeatFault p at ⊎ ClashFault p at
 
--- a name that is used and isn't there: the first of the three faults
-abbrev pub MissingFault : Parsed → ℕ → Type 0
-MissingFault p at = (place : Place) × (spot_of p.spots place ≡ Some at) × (AreThere (module_shape p.«module») place → ⊥)
-
 -- a rule of types fails at this offset
 abbrev pub TypeFault : Parsed → ℕ → Type 0
 TypeFault p at = (place : Place) × (spot_of p.spots place ≡ Some at) × (HasProperTypes (module_shape p.«module») place → ⊥)
