@@ -34,7 +34,7 @@ zip_append R [] (y ∷ ys) zs ws h k = absurd h
 zip_append R (x ∷ xs) [] zs ws h k = absurd h
 zip_append R (x ∷ xs) (y ∷ ys) zs ws h k = (h.0, zip_append R xs ys zs ws h.1 k)
 
-right_at : {A B : Type 0} (R : A → B → Type 0) (xs : List A) (ys : List B) → AllZip R xs ys → (j : ℕ) (x : A) → slice_get xs j ≡ Some x
+pub right_at : {A B : Type 0} (R : A → B → Type 0) (xs : List A) (ys : List B) → AllZip R xs ys → (j : ℕ) (x : A) → slice_get xs j ≡ Some x
     → (y : B) × (slice_get ys j ≡ Some y) × R x y
 right_at R [] ys h j x e = cc
 right_at R (z ∷ xs) [] h j x e = absurd h
@@ -173,7 +173,7 @@ function_read p k f spot spots within is spot_is spots_are =
       long = mapped_at lines insts p.spots.insts.items p.«module».functions.items p.insts_spotted k spots f at_spots there;
     }
 
-fits_at : (p : Parsed) → module_known p.«module» ≡ true → (k : ℕ) (f : Function) (spot : ℕ) (spots : Vec (Vec ℕ Global) Global) → IsFunctionAt p k f spot spots
+pub fits_at : (p : Parsed) → module_known p.«module» ≡ true → (k : ℕ) (f : Function) (spot : ℕ) (spots : Vec (Vec ℕ Global) Global) → IsFunctionAt p k f spot spots
     → AllZip (Fits p.«module».names p.spots) (given_names k (function_shape p.«module».names f)) (given_ids f spot spots.items)
 fits_at p known k f spot spots is =
     function_fits p.«module».names p.spots k spot f spots is.at_spot is.at_spots is.long

@@ -7,4 +7,5 @@ mod first;
 mod given;
 
 pub use clashes::first_item_clash;
+pub use first::first_of;
 pub use given::first_repeat;

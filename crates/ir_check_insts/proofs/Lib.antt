@@ -1,0 +1,6 @@
+mod Known
+mod Tests
+mod Walks
+mod Alike
+mod Callees
+mod Switches

@@ -1,0 +1,7 @@
+use Rattle.std.proofs.Common.{◌≡◌, map, take}
+use Rattle.ir_tree.specs.ShapeOf.{param_shape}
+use Rattle.ir_check_insts.specs.Surroundings.{names_of, ty_val_in}
+use Rattle.ir_check_insts.proofs.around.Around.are_of_params.Given as goal
+
+abbrev pub invariant-loop-i : goal.invariant-loop-i
+invariant-loop-i l = take l.i (map (λ x. x.ty) (map (ty_val_in l.self) l.arguments)) ≡ take l.i (map (λ p. p.ty) (map (param_shape (names_of l.self)) l.params))
