@@ -65,7 +65,7 @@ fn walks(tables: &TypeTables, m: &Module, ty: &Ty, indices: &[Typed]) -> bool
     true
 }
 
-/// Tells whether the indices behind the first one lead from a type into another.
+/// Tells whether the indices after the first one lead from a type into another.
 fn walks_behind(tables: &TypeTables, m: &Module, ty: &Ty, indices: &[Typed]) -> bool
     requires tables { AreTypeTables m.now tables.now }
     requires known { ty_known (length m.now.names) ty.now ≡ true }

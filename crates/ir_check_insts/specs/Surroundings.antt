@@ -19,13 +19,15 @@ names_of a = a.module.now.names
 abbrev pub around_shape : Around → AroundShape
 around_shape a = record { within = module_shape a.module.now; function = function_shape (names_of a) a.function.now }
 
--- the shapes of a type, of an operand, and of an operand with its type, by the names of that module
+-- a type's shape, by the names of that module
 abbrev pub ty_in : Around → Ty → TyShape
 ty_in a = ty_shape (names_of a)
 
+-- an operand's shape
 abbrev pub val_in : Around → Val → ValShape
 val_in a = val_shape (names_of a)
 
+-- the shape of an operand with its type
 abbrev pub ty_val_in : Around → TyVal → TyValShape
 ty_val_in a = ty_val_shape (names_of a)
 
@@ -33,13 +35,15 @@ ty_val_in a = ty_val_shape (names_of a)
 abbrev pub count_of : Around → ℕ
 count_of a = length (names_of a)
 
--- the names of these are among them
+-- the names of a type are among them
 abbrev pub KnowsTy : Around → Ty → Type 0
 KnowsTy a t = ty_known (count_of a) t ≡ true
 
+-- the names of an operand are among them
 abbrev pub KnowsVal : Around → Val → Type 0
 KnowsVal a v = val_known (count_of a) v ≡ true
 
+-- the names of an operand with its type are among them
 abbrev pub KnowsTyVal : Around → TyVal → Type 0
 KnowsTyVal a x = ty_val_known (count_of a) x ≡ true
 

@@ -70,7 +70,8 @@ impl<'a> Around<'a> {
     /// Returns the defined function of a number.
     fn defined(&self, number: usize) -> Option<&'a Function>
         requires { IsAround self.now }
-        ensures found { option_copied result ≡ slice_get self.now.module.now.functions.items number }
+        ensures found { option_copied result
+            ≡ slice_get self.now.module.now.functions.items number }
         ensures known { IfSome result (λ f. function_known (count_of self.now) f.now ≡ true) }
     {
         self.module.functions.get(number)
@@ -79,7 +80,8 @@ impl<'a> Around<'a> {
     /// Returns the declared function of a number.
     fn declared(&self, number: usize) -> Option<&'a Declare>
         requires { IsAround self.now }
-        ensures found { option_copied result ≡ slice_get self.now.module.now.declares.items number }
+        ensures found { option_copied result
+            ≡ slice_get self.now.module.now.declares.items number }
         ensures known { IfSome result (λ d. declare_known (count_of self.now) d.now ≡ true) }
     {
         self.module.declares.get(number)

@@ -18,7 +18,8 @@ impl<'a> Around<'a> {
     pub fn is_alloca(&self, ty: &Ty, count: i128) -> bool
         requires around { IsAround self.now }
         requires ty_names { KnowsTy self.now ty.now }
-        ensures { IsTrue result ↔ IsWellTyped (around_shape self.now) (alloca (ty_in self.now ty.now) count) }
+        ensures { IsTrue result ↔ IsWellTyped (around_shape self.now)
+            (alloca (ty_in self.now ty.now) count) }
     {
         has_room(&self.types.layouts, ty, count)
     }
@@ -89,7 +90,7 @@ impl<'a> Around<'a> {
         true
     }
 
-    /// Tells whether indices lead into a type, behind a first one.
+    /// Tells whether the indices after the first one lead into a type.
     fn walks_behind(&self, ty: &Ty, indices: &[TyVal]) -> bool
         requires around { IsAround self.now }
         requires ty_names { KnowsTy self.now ty.now }
