@@ -15,5 +15,7 @@ pub use laws::{
     what_types_hold_has_a_layout,
 };
 pub use order::{first_types, type_of};
-pub use sizes::{Layout, MOST_SIZE};
+pub use sizes::{
+    Layout, MOST_SIZE, array_layout, field_end, field_start, integer_layout, rounded_up, wider_align,
+};
 pub use table::Layouts;

@@ -1,0 +1,4 @@
+pub mod Depth
+mod Measures
+pub mod Computed
+mod Places
