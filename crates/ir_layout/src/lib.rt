@@ -16,6 +16,7 @@ pub use laws::{
 };
 pub use order::{first_types, type_of};
 pub use sizes::{
-    Layout, MOST_SIZE, array_layout, field_end, field_start, integer_layout, rounded_up, wider_align,
+    Layout, MOST_SIZE, array_layout, field_end, field_start, integer_layout, rounded_up,
+    wider_align,
 };
 pub use table::Layouts;
