@@ -28,7 +28,7 @@ use Rattle.ir_layout.proofs.Found.{next_grows}
 use Rattle.ir_layout.proofs.Places.{offset_gives}
 use Rattle.ir_layout.proofs.Entries.{types_known, number_known, stands_number}
 use Rattle.ir_rules.specs.Constants.{Opens, is_array, is_structure, is_name, row_at}
-use Rattle.ir_openings.proofs.Once.{may_open, array_opens, structure_opens, name_opens, opens_once}
+use Rattle.ir_openings.proofs.Once.{structure_opens, name_opens, opens_once}
 use Rattle.ir_openings.proofs.Types.{layer_shape, structure_shape, structure_known, named_shape, named_known, rolled}
 use Rattle.ir_sizes.specs.Nested.{layouts_within}
 use Rattle.ir_sizes.specs.Fields.{HasField, HasPlaceWithin}
@@ -92,6 +92,20 @@ number_stands_for names distinct ts known id within u stands =
     let same = one_number names distinct number.0 id (text_of names id) there (text_at names id within) in
     (number.1, subst (λ (n : ℕ). type_of_number ts n ≡ Some number.1) same number.3, number.4)
 
+-- a type that may be a structure, or open to one
+abbrev pub MayBeStructure : TyShape → Type 0
+MayBeStructure (integer bits) = ⊥
+MayBeStructure pointer = ⊥
+MayBeStructure void = ⊥
+MayBeStructure (array count element) = ⊥
+MayBeStructure (structure row packed) = Unit {0}
+MayBeStructure (named name) = Unit {0}
+
+may_be : (ts : List NamedTyShape) (t u : TyShape) → Opens ts t u → MayBeStructure u → MayBeStructure t
+may_be ts t u (is_array count element) may = may
+may_be ts t u (is_structure row packed) may = may
+may_be ts t u (is_name name v w stands opens) may = tt
+
 -- a type that is no structure and no name opens to none
 pub opens_to_none : (names : List (List ℕ)) (ts : List NamedTyShape) (t : Ty) → ((v : Vec Ty Global) (packed : Bool) → t ≡ variants.Struct v packed → ⊥)
     → ((id : NameId) → t ≡ variants.Named id → ⊥) → (row : TyShapes) (packed : Bool) → Opens ts (ty_shape names t) (structure row packed) → ⊥
@@ -99,12 +113,10 @@ opens_to_none names ts t no_structure no_name row packed opens =
     by_layer (out-Ty t) refl (subst (λ (z : TyShape). Opens ts z (structure row packed)) (layer_shape names t) opens)
   where
     by_layer : (y : ty.Ty-F Ty) → out-Ty t ≡ y → Opens ts (ty_step names (map-Ty Ty TyShape (ty_shape names) y)) (structure row packed) → ⊥
-    by_layer (ty.Int bits) e inside = may_open ts (integer bits) (structure row packed) inside
-    by_layer ty.Ptr e inside = may_open ts pointer (structure row packed) inside
-    by_layer ty.Void e inside = may_open ts void (structure row packed) inside
-    by_layer (ty.Array count element) e inside =
-        let wrong : structure row packed ≡ array count (ty_shape names element.value) = array_opens ts count (ty_shape names element.value) (structure row packed) inside in
-        cc
+    by_layer (ty.Int bits) e inside = may_be ts (integer bits) (structure row packed) inside tt
+    by_layer ty.Ptr e inside = may_be ts pointer (structure row packed) inside tt
+    by_layer ty.Void e inside = may_be ts void (structure row packed) inside tt
+    by_layer (ty.Array count element) e inside = may_be ts (array count (ty_shape names element.value)) (structure row packed) inside tt
     by_layer (ty.Struct v p) e inside = no_structure v p (rolled t _ e ∙ variants.rolls-Struct v p)
     by_layer (ty.Named id) e inside = no_name id (rolled t _ e ∙ variants.rolls-Named id)
 

@@ -10,7 +10,7 @@ use Rattle.ir_rules.specs.Constants.{Opens, row_at}
 abbrev pub HasField : List NamedTyShape → TyShape → ℕ → Type 0
 HasField ts t k = (row : TyShapes) × (packed : Bool) × (field : TyShape) × Opens ts t (structure row packed) × (row_at row k ≡ Some field)
 
--- the field of this number begins at this offset in the structure that a type is
+-- where a type is a structure whose fields have layouts, the field of this number begins at this offset in it
 abbrev pub IsOffset : List NamedTyShape → TyShape → ℕ → ℕ → Type 0
 IsOffset ts t k at =
     (row : TyShapes) (packed : Bool) (ls : List Layout) → Opens ts t (structure row packed) → HaveLayouts ts row ls → at ≡ field_offset packed 0 ls k

@@ -11,7 +11,7 @@ abbrev pub given_from : (ℕ → Option Layout) → ℕ → ℕ → List (Option
 given_from f at zero = []
 given_from f at (suc count) = f at ∷ given_from f (at + 1) count
 
--- for so many names, the layout of each in which named types nest so deep at most: that of the type that the name stands for, in which they nest
+-- for so many names, the layout of each in which named types nest so deep at most: that of the type that the name stands for, where they nest
 -- one less deep
 abbrev pub layouts_within : List NamedTy → ℕ → ℕ → List (Option Layout)
 layouts_within ts count zero = given_from (λ id. None) 0 count
