@@ -1,20 +1,19 @@
 //! What is around an instruction.
 
-ghost use Rattle.std.specs.Prelude.{◌≡◌, ◌↔◌, ℕ, List, true, length, IsTrue, IfSome, option_copied, option_map};
+ghost use Rattle.std.specs.Prelude.{◌≡◌, ◌↔◌, ℕ, List, true, length, IsTrue};
 ghost use Rattle.std.specs.List.{IsDistinct};
 ghost use Rattle.std.specs.Str.{bytes_eq};
 ghost use Rattle.ir_tree.specs.NameTable.{text_of, IsKnown};
-ghost use Rattle.ir_tree.specs.Known.{ty_known, inst_known};
-ghost use Rattle.ir_tree.specs.ShapeOf.{ty_shape, inst_shape};
-ghost use Rattle.ir_rules.specs.Values.{inst_at, site_ty, value_ty};
+ghost use Rattle.ir_tree.specs.Known.{ty_known};
+ghost use Rattle.ir_tree.specs.ShapeOf.{ty_shape};
+ghost use Rattle.ir_rules.specs.Values.{value_ty};
 ghost use Rattle.ir_names.specs.Results.{result_shape, IsKnownResult};
-ghost use Rattle.ir_check_insts.specs.Surroundings.{names_of, around_shape, count_of, ty_in, KnowsTy, IsAround};
+ghost use Rattle.ir_check_insts.specs.Surroundings.{names_of, around_shape, ty_in, KnowsTy, IsAround};
 
 use ir_check_consts::TypeTables;
-use ir_names::{FunctionNames, ModuleNames, ResultTy, result_ty};
-use ir_rules::Site;
+use ir_names::{FunctionNames, ModuleNames, ResultTy};
 use ir_same::same_ty;
-use ir_tree::module::{Function, Inst, Module};
+use ir_tree::module::{Function, Module};
 use ir_tree::names::NameId;
 use ir_tree::types::Ty;
 use ir_type_tests::{is_bit, is_pointer, is_void};
@@ -49,51 +48,6 @@ fn is_result(found: ResultTy, ty: &Ty) -> bool
 }
 
 impl<'a> Around<'a> {
-    /// Returns the instruction of the second number in the block of the first.
-    fn inst_at(&self, block: usize, number: usize) -> Option<&'a Inst>
-        requires { IsAround self.now }
-        ensures inst { option_map (inst_shape (names_of self.now)) (option_copied result)
-            ≡ inst_at (around_shape self.now).function block number }
-        ensures known { IfSome result (λ x. inst_known (count_of self.now) x.now ≡ true) }
-    {
-        match self.function.blocks.get(block) {
-            Some(block) => block.insts.get(number),
-            None => None,
-        }
-    }
-
-    /// Returns the type of the value that something gives.
-    fn type_at(&self, site: Site) -> Option<ResultTy<'a>>
-        requires { IsAround self.now }
-        ensures ty { option_map (result_shape (names_of self.now)) result
-            ≡ site_ty (around_shape self.now).function site }
-        ensures known { IfSome result (IsKnownResult (count_of self.now)) }
-    {
-        match site {
-            Site::Param(number) => match self.function.params.get(number) {
-                Some(param) => Some(ResultTy::Stated(&param.ty)),
-                None => None,
-            },
-            Site::Inst(block, number) => match self.inst_at(block, number) {
-                Some(inst) => Some(result_ty(&inst.body)),
-                None => None,
-            },
-        }
-    }
-
-    /// Returns the type of the value that a name stands for.
-    fn type_of(&self, id: NameId) -> Option<ResultTy<'a>>
-        requires around { IsAround self.now }
-        requires known { IsKnown (names_of self.now) id.0 }
-        ensures ty { option_map (result_shape (names_of self.now)) result
-            ≡ value_ty (around_shape self.now).function (text_of (names_of self.now) id.0) }
-        ensures known { IfSome result (IsKnownResult (count_of self.now)) }
-    {
-        let value = self.values.value_of(id)?;
-        let site = self.values.site_of(value)?;
-        self.type_at(site)
-    }
-
     /// Tells whether the value that a name stands for has a type.
     pub fn local_has(&self, id: NameId, ty: &Ty) -> bool
         requires around { IsAround self.now }
@@ -103,7 +57,7 @@ impl<'a> Around<'a> {
             (value_ty (around_shape self.now).function (text_of (names_of self.now) id.0)
             ≡ Some (ty_in self.now ty.now)) }
     {
-        match self.type_of(id) {
+        match self.values.type_of(self.function, id) {
             Some(found) => is_result(found, ty),
             None => false,
         }

@@ -1,6 +1,6 @@
 //! The values of a function by number, and what its names stand for in it.
 
-ghost use Rattle.std.specs.Prelude.{◌≡◌, ◌↔◌, ℕ, List, [], true, IsTrue, length, map, Some, IfOk, slice_get};
+ghost use Rattle.std.specs.Prelude.{◌≡◌, ◌↔◌, ℕ, List, [], true, IsTrue, length, map, Some, IfOk, IfSome, slice_get};
 ghost use Rattle.std.specs.Option.{option_map};
 ghost use Rattle.std.specs.List.{IsDistinct};
 ghost use Rattle.std.specs.Str.{bytes_eq};
@@ -9,7 +9,7 @@ ghost use Rattle.ir_tree.specs.Known.{function_known};
 ghost use Rattle.ir_tree.specs.ShapeOf.{function_shape};
 ghost use Rattle.ir_tree.specs.declared.module.Function.{Function};
 ghost use Rattle.ir_rules.specs.Values.{values, value_of, block_of, value_ty};
-ghost use Rattle.ir_names.specs.Results.{result_shape};
+ghost use Rattle.ir_names.specs.Results.{result_shape, IsKnownResult};
 ghost use Rattle.ir_names.specs.Tables.{AreNamesIn};
 
 use crate::firsts::first_of_some;
@@ -100,9 +100,11 @@ impl FunctionNames {
 
     /// Returns the type of the value that a name stands for, where these are the names of the function.
     pub fn type_of<'a>(&self, f: &'a Function, id: NameId) -> Option<ResultTy<'a>>
-        ensures { (names : List (List ℕ)) → AreNamesIn names f.now self.now → IsKnown names id.0 →
-            option_map (result_shape names) result
+        ensures shape { (names : List (List ℕ)) → AreNamesIn names f.now self.now →
+            IsKnown names id.0 → option_map (result_shape names) result
             ≡ value_ty (function_shape names f.now) (text_of names id.0) }
+        ensures known { (count : ℕ) → function_known count f.now ≡ true →
+            IfSome result (IsKnownResult count) }
     {
         match self.value_of(id) {
             Some(value) => match self.site_of(value) {

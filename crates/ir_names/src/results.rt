@@ -1,8 +1,8 @@
 //! The types of what instructions give.
 
-ghost use Rattle.std.specs.Prelude.{◌≡◌, List, ℕ, option_copied, true};
+ghost use Rattle.std.specs.Prelude.{◌≡◌, List, ℕ, option_copied, true, IfSome};
 ghost use Rattle.std.specs.Option.{option_map};
-ghost use Rattle.ir_tree.specs.Known.{body_known};
+ghost use Rattle.ir_tree.specs.Known.{body_known, inst_known, function_known};
 ghost use Rattle.ir_tree.specs.ShapeOf.{body_shape, inst_shape, function_shape};
 ghost use Rattle.ir_rules.specs.Values.{result_ty as result_ty_of, is_void, inst_at as inst_at_of, site_ty};
 ghost use Rattle.ir_names.specs.Results.{result_shape, IsKnownResult};
@@ -53,8 +53,10 @@ pub fn result_ty(body: &Body) -> ResultTy
 
 /// Returns the type of what a parameter or an instruction of a function gives, if it is there.
 pub fn type_of_site(f: &Function, site: Site) -> Option<ResultTy>
-    ensures { (names : List (List ℕ)) →
+    ensures shape { (names : List (List ℕ)) →
         option_map (result_shape names) result ≡ site_ty (function_shape names f.now) site }
+    ensures known { (count : ℕ) → function_known count f.now ≡ true →
+        IfSome result (IsKnownResult count) }
 {
     match site {
         Site::Param(k) => match f.params.get(k) {
@@ -70,8 +72,10 @@ pub fn type_of_site(f: &Function, site: Site) -> Option<ResultTy>
 
 /// Returns the instruction of the second number in the block of the first, if it is there.
 pub fn inst_at(f: &Function, b: usize, i: usize) -> Option<&Inst>
-    ensures { (names : List (List ℕ)) → option_map (inst_shape names) (option_copied result)
+    ensures shape { (names : List (List ℕ)) → option_map (inst_shape names) (option_copied result)
         ≡ inst_at_of (function_shape names f.now) b i }
+    ensures known { (count : ℕ) → function_known count f.now ≡ true →
+        IfSome result (λ x. inst_known count x.now ≡ true) }
 {
     match f.blocks.get(b) {
         Some(block) => block.insts.get(i),

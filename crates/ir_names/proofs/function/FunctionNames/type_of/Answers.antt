@@ -12,9 +12,9 @@ by_site : (f : FunctionShape) (o : Option ValueShape) (site : Site) → Some sit
 by_site f None site is = cc
 by_site f (Some v) site is = let same : site ≡ v.site = cc in ap (site_ty f) same
 
-pub returns-in-Some-site_of : goal.returns-in-Some-site_of
-returns-in-Some-site_of c names are known =
+pub returns-in-Some-site_of-clause-shape : goal.returns-in-Some-site_of-clause-shape
+returns-in-Some-site_of-clause-shape c names are known =
     let f = function_shape names c.args.f.now in
-    c.type_of_site.ensures names
+    c.type_of_site.ensures.shape names
     ∙ by_site f (slice_get (values f) c.in-Some.value) c.in-Some-site_of.site (c.in-Some-site_of.ensures names c.args.f.now are)
     ∙ ap (λ (o : Option ℕ). option_and_then (λ v. site_ty f v.site) (option_and_then (slice_get (values f)) o)) (c.in-Some.ensures names c.args.f.now are known)
