@@ -279,17 +279,24 @@ class Reader:
             element = self.ty()
             self.take("punct", "]")
             return ("array", count, element)
-        packed = bool(self.take_if("punct", "<"))
-        if packed or self.is_next("punct", "{"):
-            self.take("punct", "{")
-            fields = self.listed("}", self.ty)
-            if packed:
-                self.take("punct", ">")
+        if (structure := self.structure(self.ty)) is not None:
+            packed, fields = structure
             return ("struct", packed, tuple(fields))
         for word, ty in (("ptr", PTR), ("void", VOID)):
             if self.take_if("word", word):
                 return ty
         return ("i", int(self.take("word", *INTEGER_TYPES)[1:]))
+
+    def structure(self, part):
+        """Whether a structure is packed, and its parts, each as `part` reads it; or none where none begins."""
+        packed = bool(self.take_if("punct", "<"))
+        if not packed and not self.is_next("punct", "{"):
+            return None
+        self.take("punct", "{")
+        parts = self.listed("}", part)
+        if packed:
+            self.take("punct", ">")
+        return packed, parts
 
     def typed_const(self):
         return self.ty(), self.const()
@@ -307,13 +314,8 @@ class Reader:
             return ("global", self.name("global"))
         if self.take_if("punct", "["):
             return ("array", self.listed("]", self.typed_const))
-        packed = bool(self.take_if("punct", "<"))
-        if packed or self.is_next("punct", "{"):
-            self.take("punct", "{")
-            values = self.listed("}", self.typed_const)
-            if packed:
-                self.take("punct", ">")
-            return ("struct", packed, values)
+        if (structure := self.structure(self.typed_const)) is not None:
+            return ("struct", *structure)
         word = self.take("word", *CONSTANT_WORDS)
         if word == "getelementptr":
             return self.address()
