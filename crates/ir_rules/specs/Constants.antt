@@ -43,10 +43,10 @@ pub record IsIndex (t : TyShape) (c : ConstShape) (value : ℤ) : Type 0 where
   pub fits : IsLiteral value t
 
 -- an index leads from a type into that of an array's elements, or of the structure's field of this number
-pub data StepsBy (ts : List NamedTyShape) (number : Option ℤ) : TyShape → TyShape → Type 0 where
-  to_element : (t : TyShape) (count : ℕ) (element : TyShape) → Opens ts t (array count element) → StepsBy ts number t element
-  to_field : (t : TyShape) (row : TyShapes) (packed : Bool) (k : ℕ) (field : TyShape) → Opens ts t (structure row packed) → number ≡ Some (pos k)
-      → row_at row k ≡ Some field → StepsBy ts number t field
+pub data StepsBy (ts : List NamedTyShape) (index : Option ℤ) : TyShape → TyShape → Type 0 where
+  to_element : (t : TyShape) (count : ℕ) (element : TyShape) → Opens ts t (array count element) → StepsBy ts index t element
+  to_field : (t : TyShape) (row : TyShapes) (packed : Bool) (k : ℕ) (field : TyShape) → Opens ts t (structure row packed) → index ≡ Some (pos k)
+      → row_at row k ≡ Some field → StepsBy ts index t field
 
 -- the numbers of constant indices
 abbrev pub const_number : ConstShape → Option ℤ
@@ -137,8 +137,8 @@ unfoldable mutual
   pub HasBase : List NamedTyShape → TypedShape → Type 0
   HasBase ts (typed u c) = (u ≡ pointer) × IsAddress c × HasConst ts c pointer
 
--- what a constant must besides be, where it stands as an operand of an instruction: no array and no structure, and of an integer type or
--- an address where it is written without its value
+-- what a constant must besides be, where it stands as an operand of an instruction: not written out part by part, as an array or a
+-- structure is (a string may stand, and fits no instruction's type), and of an integer type or an address where it is written without its value
 abbrev pub IsPlain : ConstShape → TyShape → Type 0
 IsPlain (number value) t = Unit {0}
 IsPlain (boolean value) t = Unit {0}

@@ -62,9 +62,13 @@ IsStep a x = IsInteger x.ty × Fits a x
 abbrev pub bits_of : ℕ → ℤ → ℕ
 bits_of width value = unsigned_abs (int_rem_euclid value (pos (2 ^ width)))
 
+-- a case of a switch on a value of so many bits
+abbrev pub IsCase : ℕ → CaseShape → Type 0
+IsCase width c = (c.ty ≡ integer width) × IsLiteral c.value c.ty
+
 -- the cases of a switch on a value of so many bits
 pub record AreCases (width : ℕ) (cases : List CaseShape) : Type 0 where
-  pub each : AllByRecursion (λ c. (c.ty ≡ integer width) × IsLiteral c.value c.ty) cases
+  pub each : AllByRecursion (IsCase width) cases
   pub apart : IsDistinct nat_eq (map (λ c. bits_of width c.value) cases)
 
 -- the function that is called has these types

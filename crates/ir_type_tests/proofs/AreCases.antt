@@ -6,8 +6,7 @@ use Rattle.std.specs.declared.alloc.AllocError.{AllocError}
 use Rattle.std.proofs.lemmas.Simd.{map-map}
 use Rattle.ir_tree.specs.ShapeOf.{case_shape}
 use Rattle.ir_tree.specs.declared.module.Case.{Case}
-use Rattle.ir_rules.specs.Instructions.{AreCases, bits_of}
-use Rattle.ir_type_tests.specs.Parts.{IsCase}
+use Rattle.ir_rules.specs.Instructions.{IsCase, AreCases, bits_of}
 
 bits_same : (width : ℕ) (cases : List Case) (names : List (List ℕ))
     → map (λ c. bits_of width c.value) (map (case_shape names) cases) ≡ map (λ c. bits_of width c.value) cases

@@ -3,8 +3,7 @@
 ghost use Rattle.std.specs.Prelude.{◌↔◌, ◌≤◌, List, ℕ, map, nat_eq, IsTrue, IfOk};
 ghost use Rattle.std.specs.List.{AllByRecursion, IsDistinct};
 ghost use Rattle.ir_tree.specs.ShapeOf.{case_shape};
-ghost use Rattle.ir_rules.specs.Instructions.{AreCases, bits_of};
-ghost use Rattle.ir_type_tests.specs.Parts.{IsCase};
+ghost use Rattle.ir_rules.specs.Instructions.{IsCase, AreCases, bits_of};
 
 use crate::numbers::{bits_of, is_literal};
 use crate::types::is_integer_of;

@@ -9,8 +9,8 @@ use crate::types::is_scalar;
 use ir_tree::module::Val;
 use ir_tree::types::{Const, Ty};
 
-/// Tells whether a constant of a type may be an operand: no array and no structure, and of a scalar type
-/// where it is written without its value.
+/// Tells whether a constant of a type may be an operand: not written out part by part, and of a scalar type
+/// where it is written without its value. A string may be one, and fits no instruction's type.
 pub fn is_plain(c: &Const, ty: &Ty) -> bool
     ensures { (names : List (List ℕ)) → IsTrue result ↔
         IsPlain (const_shape names c.now) (ty_shape names ty.now) }

@@ -1,6 +1,6 @@
 use Rattle.std.proofs.Common.{sym}
 use Rattle.ir_tree.specs.ShapeOf.{case_shape}
-use Rattle.ir_type_tests.specs.Parts.{IsCase}
+use Rattle.ir_rules.specs.Instructions.{IsCase}
 use Rattle.ir_type_tests.proofs.Both.{fails}
 use Rattle.ir_type_tests.proofs.Rests.{rest_next, rest_fails}
 use Rattle.ir_type_tests.proofs.cases.are_literals.Goals as goal

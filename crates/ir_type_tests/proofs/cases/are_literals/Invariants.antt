@@ -1,7 +1,7 @@
 use Rattle.std.proofs.Common.{ℕ, List, map}
 use Rattle.std.specs.List.{AllByRecursion}
 use Rattle.ir_tree.specs.ShapeOf.{case_shape}
-use Rattle.ir_type_tests.specs.Parts.{IsCase}
+use Rattle.ir_rules.specs.Instructions.{IsCase}
 use Rattle.ir_type_tests.proofs.Rests.{RestDecides}
 use Rattle.ir_type_tests.proofs.cases.are_literals.Given as goal
 
