@@ -14,7 +14,7 @@ use ir_tree::types::Ty;
 use ir_type_tests::{is_integer_of, is_returned, is_scalar};
 
 /// Tells whether the name of a number is this one. A number that no name has stands for the empty name.
-fn is_named(names: &Names, id: NameId, name: &[u8]) -> bool
+pub fn is_named(names: &Names, id: NameId, name: &[u8]) -> bool
     ensures { IsTrue result ↔ (text_of names.now id.0 ≡ name.now) }
 {
     match names.text(id) {

@@ -14,6 +14,7 @@ mod names;
 mod types;
 
 pub use check::{check_types, check_types_with};
+pub use declares::is_named;
 pub use error::TypeError;
 pub use ir_sizes::{offset_of, size_of};
 pub use laws::{answers_are_alone, operands_have_their_kinds, proper_modules_have_no_faults};
