@@ -12,13 +12,13 @@ use Rattle.rv_model.specs.Text.{Stands, StandsAll}
 use Rattle.rv_model.proofs.ActLemmas.{act-ADDI, act-BEQ}
 use Rattle.rv_model.proofs.RunLemmas.{run-continues, more-more}
 use Rattle.rv_model.proofs.TextLemmas.{step-stands}
-use Rattle.rv_flips.specs.Cells.{Damage, Nothing, First, Second, Third, Sure, One, Two, Three, Cell, Has, Holds, with_error}
-use Rattle.rv_flips.specs.Assertion.{Assertion, Meets, with_register, after_write}
+use Rattle.rv_flips.specs.Cells.{Damage, Nothing, First, Second, Third, Sure, One, Two, Three, Cell, Has, Holds}
+use Rattle.rv_flips.specs.Assertion.{Assertion, Meets, KnowsLess, with_register, after_write}
 use Rattle.rv_flips.specs.Moves.{Covered, Ready, Arrives, Moves}
-use Rattle.rv_flips.proofs.CellLemmas.{sure_holds, with_register-same, with_register-other}
+use Rattle.rv_flips.proofs.CellLemmas.{right_kept, says_same, with_register-same, with_register-other, with_register-twice}
 use Rattle.rv_flips.proofs.FlipLemmas.{ready}
 use Rattle.rv_flips.proofs.MoveLemmas.{moves_then, moves_weaker, settled}
-use Rattle.rv_flips.proofs.WordLaws.{meets_put, copy_moves, meets_cell}
+use Rattle.rv_flips.proofs.WordLaws.{meets_put, meets_less, copy_moves, meets_cell}
 use Rattle.rv_flips.specs.Known.{Sures, AllListed}
 use Rattle.rv_flips.specs.Fetching.{fetch_words, IsTriple}
 use Rattle.rv_flips.proofs.KnownRegisters.{covered, sures_other}
@@ -26,30 +26,30 @@ use Rattle.rv_flips.proofs.KnownRegisters.{covered, sures_other}
 -- the state that goes on at another address
 pub meets_jump : (words : List ℕ) (c : Assertion) (p : ℕ) (damage : Damage) (s : MachineState) → Meets words c damage s → Meets words (record c { pc = p }) damage (jump s p)
 meets_jump words c p damage s meets =
-    record { data_bytes = meets.data_bytes; pc = refl; regs = meets.regs; wide = meets.wide; count = meets.count; segments = meets.segments; size = meets.size; slots = meets.slots; regions = meets.regions; input = meets.input; out = meets.out }
+    record { data_bytes = meets.data_bytes; pc = refl; regs = meets.regs; wide = meets.wide; count = meets.count; segments = meets.segments; size = meets.size; small = meets.small; slots = meets.slots; bytes = meets.bytes; input = meets.input; out = meets.out }
 
 -- where a first and a second copy are equal, the first is right
-agree : (d b v x y : ℕ) (damage : Damage) → Holds d (Has One v) damage x → Holds b (Has Two v) damage y → x ≡ y → Holds d (Has Sure v) damage x
-agree d b v x y First h k e = e ∙ k
-agree d b v x y Second h k e = h
-agree d b v x y _ h k e = h
+pub agree : (v x y : ℕ) (damage : Damage) → Holds (Has One v) damage x → Holds (Has Two v) damage y → x ≡ y → Holds (Has Sure v) damage x
+agree v x y First h k e = e ∙ k
+agree v x y Second h k e = h
+agree v x y _ h k e = h
 
 -- where they differ, something is damaged, and a third copy is right
-differ : (d b t v x y z : ℕ) (damage : Damage) → Holds d (Has One v) damage x → Holds b (Has Two v) damage y → (x ≡ y → ⊥) → Holds t (Has Three v) damage z → (z ≡ v) × (damage ≡ Nothing → ⊥)
-differ d b t v x y z First h k ne l = (l, λ e. cc)
-differ d b t v x y z Second h k ne l = (l, λ e. cc)
-differ d b t v x y z Third h k ne l = absurd (ne (h ∙ sym k))
-differ d b t v x y z Nothing h k ne l = absurd (ne (h ∙ sym k))
-differ d b t v x y z _ h k ne l = absurd (ne (h ∙ sym k))
+differ : (v x y z : ℕ) (damage : Damage) → Holds (Has One v) damage x → Holds (Has Two v) damage y → (x ≡ y → ⊥) → Holds (Has Three v) damage z → (z ≡ v) × (damage ≡ Nothing → ⊥)
+differ v x y z First h k ne l = (l, λ e. cc)
+differ v x y z Second h k ne l = (l, λ e. cc)
+differ v x y z Third h k ne l = absurd (ne (h ∙ sym k))
+differ v x y z Nothing h k ne l = absurd (ne (h ∙ sym k))
+differ v x y z _ h k ne l = absurd (ne (h ∙ sym k))
 
 -- the branch is taken: the two copies are equal
 taken : (words : List ℕ) (listed : ℕ → ℕ → Type 0) (c : Assertion) (d b t v : ℕ) (s : MachineState) (f : Option Flip) → c.regs d ≡ Has One v → c.regs b ≡ Has Two v → c.pc + 8 < 2 ^ 64 →
     Stands words c.pc (BEQ d b (pos 8)) → (r : Ready words listed c s f) → register r.now d ≡ register r.now b → Arrives words listed (after_write c d (Has Sure v) (c.pc + 8)) 2 s f
 taken words listed c d b t v s f one two room beq r same =
     let now = r.now in
-    let P : Cell → Type 0 = λ cell. Holds d cell r.damage (register r.now d) in
-    let Q : Cell → Type 0 = λ cell. Holds b cell r.damage (register r.now b) in
-    let right : Holds d (Has Sure v) r.damage (register r.now d) = agree d b v (register r.now d) (register r.now b) r.damage (subst P one (r.meets.regs d)) (subst Q two (r.meets.regs b)) same in
+    let P : Cell → Type 0 = λ cell. Holds cell r.damage (register r.now d) in
+    let Q : Cell → Type 0 = λ cell. Holds cell r.damage (register r.now b) in
+    let right : Holds (Has Sure v) r.damage (register r.now d) = agree v (register r.now d) (register r.now b) r.damage (subst P one (r.meets.regs d)) (subst Q two (r.meets.regs b)) same in
     let test : (register r.now d == register r.now b) ≡ true = grind (arith, nat_tests) in
     let pc : r.now.pc ≡ c.pc = r.meets.pc in
     let there : plus64 r.now.pc 8 ≡ c.pc + 8 = omega arith in
@@ -75,10 +75,10 @@ taken words listed c d b t v s f one two room beq r same =
 not_taken : (words : List ℕ) (listed : ℕ → ℕ → Type 0) (c : Assertion) (d b t v : ℕ) (s : MachineState) (f : Option Flip) → c.regs d ≡ Has One v → c.regs b ≡ Has Two v → c.regs t ≡ Has Three v → 0 < d → c.pc + 8 < 2 ^ 64 →
     Stands words c.pc (BEQ d b (pos 8)) → Stands words (c.pc + 4) (ADDI d t (pos 0)) → (r : Ready words listed c s f) → (register r.now d ≡ register r.now b → ⊥) → Arrives words listed (after_write c d (Has Sure v) (c.pc + 8)) 2 s f
 not_taken words listed c d b t v s f one two three nonzero room beq addi r other =
-    let P : Cell → Type 0 = λ cell. Holds d cell r.damage (register r.now d) in
-    let Q : Cell → Type 0 = λ cell. Holds b cell r.damage (register r.now b) in
-    let R : Cell → Type 0 = λ cell. Holds t cell r.damage (register r.now t) in
-    let both = differ d b t v (register r.now d) (register r.now b) (register r.now t) r.damage (subst P one (r.meets.regs d)) (subst Q two (r.meets.regs b)) other (subst R three (r.meets.regs t)) in
+    let P : Cell → Type 0 = λ cell. Holds cell r.damage (register r.now d) in
+    let Q : Cell → Type 0 = λ cell. Holds cell r.damage (register r.now b) in
+    let R : Cell → Type 0 = λ cell. Holds cell r.damage (register r.now t) in
+    let both = differ v (register r.now d) (register r.now b) (register r.now t) r.damage (subst P one (r.meets.regs d)) (subst Q two (r.meets.regs b)) other (subst R three (r.meets.regs t)) in
     let test : (register r.now d == register r.now b) ≡ false = grind (arith, nat_tests) in
     let pc : r.now.pc ≡ c.pc = r.meets.pc in
     let there : plus64 r.now.pc 4 ≡ c.pc + 4 = omega arith in
@@ -100,9 +100,9 @@ not_taken words listed c d b t v s f one two three nonzero room beq addi r other
       flip = None;
       few = omega arith;
       good = record {
-        damage = with_error d 0 r.damage;
-        meets = meets_put words (record c { pc = c.pc + 4 }) r.damage (jump r.now (c.pc + 4)) d (register r.now t) 0 (c.pc + 8) (Has Sure v) meets1 nonzero fits.0 wide
-            (sure_holds d v (register r.now t) (with_error d 0 r.damage) both.0) at;
+        damage = r.damage;
+        meets = meets_put words (record c { pc = c.pc + 4 }) r.damage (jump r.now (c.pc + 4)) d (register r.now t) (c.pc + 8) (Has Sure v) meets1 nonzero fits.0 wide
+            (right_kept Sure v (register r.now t) r.damage both.0) at;
         pending = tt;
       };
       goes = λ k.
@@ -114,7 +114,7 @@ not_taken words listed c d b t v s f one two three nonzero room beq addi r other
     }
 
 -- two numbers are equal or not
-decided : (x y : ℕ) → (x ≡ y) ⊎ (x ≡ y → ⊥)
+pub decided : (x y : ℕ) → (x ≡ y) ⊎ (x ≡ y → ⊥)
 decided x y = by_test (x == y) refl
   where
     by_test : (b : Bool) → (x == y) ≡ b → (x ≡ y) ⊎ (x ≡ y → ⊥)
@@ -122,7 +122,7 @@ decided x y = by_test (x == y) refl
     by_test false e = inr (grind (arith, nat_tests))
 
 -- the branch, and where it isn't taken the word after it
-branch_moves : (words : List ℕ) (listed : ℕ → ℕ → Type 0) (c : Assertion) (d b t v : ℕ) → c.regs d ≡ Has One v → c.regs b ≡ Has Two v → c.regs t ≡ Has Three v → 0 < d → c.pc + 8 < 2 ^ 64 →
+pub branch_moves : (words : List ℕ) (listed : ℕ → ℕ → Type 0) (c : Assertion) (d b t v : ℕ) → c.regs d ≡ Has One v → c.regs b ≡ Has Two v → c.regs t ≡ Has Three v → 0 < d → c.pc + 8 < 2 ^ 64 →
     Stands words c.pc (BEQ d b (pos 8)) → Stands words (c.pc + 4) (ADDI d t (pos 0)) → Covered listed c → Moves words listed c 2 (after_write c d (Has Sure v) (c.pc + 8))
 branch_moves words listed c d b t v one two three nonzero room beq addi covered s f good = by_ready (ready words listed c s f covered good)
   where
@@ -134,32 +134,17 @@ tags_differ : (v w : ℕ) → Has One v ≡ Has Sure w → ⊥
 tags_differ v w e = cc
 
 -- of a register that is written twice, the second cell is known
-written_twice : (words : List ℕ) (c : Assertion) (d v p : ℕ) (damage : Damage) (s : MachineState) → Meets words (after_write (after_write c d (Has One v) (c.pc + 4)) d (Has Sure v) p) damage s → Meets words (after_write c d (Has Sure v) p) damage s
-written_twice words c d v p damage s meets =
+written_twice : (c : Assertion) (d v p : ℕ) → KnowsLess (after_write (after_write c d (Has One v) (c.pc + 4)) d (Has Sure v) p) (after_write c d (Has Sure v) p)
+written_twice c d v p =
     record {
-      data_bytes = meets.data_bytes;
-      pc = meets.pc;
-      regs = λ q. each q (q == d) refl;
-      wide = meets.wide;
-      count = meets.count;
-      segments = meets.segments;
-      size = meets.size;
-      slots = meets.slots;
-      regions = meets.regions;
-      input = meets.input;
-      out = meets.out;
+      pc = refl;
+      regs = λ q. says_same (with_register (with_register c.regs d (Has One v)) d (Has Sure v) q) (with_register c.regs d (Has Sure v) q) (with_register-twice c.regs d q (Has One v) (Has Sure v));
+      slots = λ k damage x h. h;
+      bytes = λ o x h. h;
+      size = refl;
+      input = refl;
+      out = refl;
     }
-  where
-    each : (q : ℕ) (b : Bool) → (q == d) ≡ b → Holds q (with_register c.regs d (Has Sure v) q) damage (register s q)
-    each q true e =
-        let same : d ≡ q = grind (arith, nat_tests) in
-        let P : ℕ → Type 0 = λ k. Holds k (with_register c.regs d (Has Sure v) k) damage (register s k) in
-        let Q : Cell → Type 0 = λ cell. Holds d cell damage (register s d) in
-        subst P same (subst Q (with_register-same (with_register c.regs d (Has One v)) d (Has Sure v) ∙ sym (with_register-same c.regs d (Has Sure v))) (meets.regs d))
-    each q false e =
-        let other : q ≢ d = grind (arith, nat_tests) in
-        let Q : Cell → Type 0 = λ cell. Holds q cell damage (register s q) in
-        subst Q (with_register-other (with_register c.regs d (Has One v)) d q (Has Sure v) other ∙ with_register-other c.regs d q (Has One v) other ∙ sym (with_register-other c.regs d q (Has Sure v) other)) (meets.regs q)
 
 -- the three words: the right value comes into d, whatever one flip outside the list does
 pub fetch_moves : (words : List ℕ) (listed : ℕ → ℕ → Type 0) (c : Assertion) (d a b t v : ℕ) (rs : List ℕ) → IsTriple c.regs a b t v → 0 < d → d ≢ b → d ≢ t → c.pc + 12 < 2 ^ 64 →
@@ -172,6 +157,6 @@ fetch_moves words listed c d a b t v rs triple nonzero not_b not_t room stands s
     let three : with_register c.regs d (Has One v) t ≡ Has Three v = with_register-other c.regs d t (Has One v) (λ e. not_t (sym e)) ∙ triple.three in
     let not_sure : (w : ℕ) → Has One v ≡ Has Sure w → ⊥ = λ w e. tags_differ v w e in
     let sures1 = sures_other c.regs d (Has One v) rs not_sure sures in
-    let copied = copy_moves words listed c d a (c.pc + 4) v One triple.one nonzero at1 stands.0 (covered listed c rs sures l1) in
+    let copied = copy_moves words listed c d a (c.pc + 4) (Has One v) triple.one nonzero at1 stands.0 (covered listed c rs sures l1) in
     let branched = branch_moves words listed d1 d b t v one two three nonzero (omega arith) stands.1.0 stands.1.1.0 (covered listed d1 rs sures1 l2) in
-    moves_then words listed c d1 (after_write c d (Has Sure v) (c.pc + 4 + 8)) 1 2 copied (moves_weaker words listed d1 (after_write d1 d (Has Sure v) (c.pc + 4 + 8)) (after_write c d (Has Sure v) (c.pc + 4 + 8)) 2 (written_twice words c d v (c.pc + 4 + 8)) branched)
+    moves_then words listed c d1 (after_write c d (Has Sure v) (c.pc + 4 + 8)) 1 2 copied (moves_weaker words listed d1 (after_write d1 d (Has Sure v) (c.pc + 4 + 8)) (after_write c d (Has Sure v) (c.pc + 4 + 8)) 2 (λ damage s. meets_less words (after_write d1 d (Has Sure v) (c.pc + 4 + 8)) (after_write c d (Has Sure v) (c.pc + 4 + 8)) damage s (written_twice c d v (c.pc + 4 + 8))) branched)

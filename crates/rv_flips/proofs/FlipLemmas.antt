@@ -1,6 +1,6 @@
 -- The one lemma on flips: after a flip of a register that is not kept for sure, the state meets the same assertion, with the damage
 -- that the register's cell gives.
-use Rattle.std.proofs.Common.{◌≡◌, ◌≢◌, ℕ, zero, suc, ◌+◌, ◌-◌, ◌%◌, ◌<◌, ◌^◌, ◌==◌, Bool, true, false, cond, List, length, Option, Some, None, IfSome, refl, ◌∙◌, ap, subst, arith, bit_xor}
+use Rattle.std.proofs.Common.{◌≡◌, ◌≢◌, ℕ, zero, suc, ◌-◌, ◌*◌, ◌<◌, ◌^◌, ◌==◌, Bool, true, false, cond, List, length, Option, Some, None, IfSome, refl, ◌∙◌, ap, subst, arith, bit_xor}
 use Rattle.std.proofs.lemmas.Bool.Decides.{nat_tests}
 use Rattle.std.proofs.lemmas.Nat.{xor_lt}
 use Rattle.std.proofs.Math.Pow.{pow-lt}
@@ -9,33 +9,15 @@ use Rattle.rv_model.specs.State.{MachineState, register}
 use Rattle.rv_model.specs.Run.{FlipFits, IsOutside, flipped, struck, later, pc_at}
 use Rattle.rv_model.proofs.RegisterLemmas.{register-set_same, register-set_other, length-set_register, bound-set_register, pc-set_register, segments-set_register, input-set_register, out-set_register}
 use Rattle.rv_model.proofs.RunLemmas.{run-suc, pc_at-zero, pc_at-suc}
-use Rattle.rv_flips.specs.Cells.{Damage, Nothing, Cell, Free, Has, Sure, Holds, flip_damage}
-use Rattle.rv_flips.specs.Assertion.{Assertion, Meets, SlotsHold}
+use Rattle.rv_flips.specs.Cells.{Damage, Nothing, Has, Sure, Holds, flip_damage}
+use Rattle.rv_flips.specs.Assertion.{Assertion, Meets, number_at}
 use Rattle.rv_flips.specs.Moves.{Good, Covered, Ready}
-use Rattle.rv_flips.proofs.CellLemmas.{tag_damage-other, flip_damage-own, slots-tag_damage}
+use Rattle.rv_flips.proofs.CellLemmas.{undamaged_holds, flip_own}
 
--- two to a bit's number is below 2^64
-pub bit_small : (b : ℕ) → b < 64 → 2 ^ b < 2 ^ 64
-bit_small b h = pow-lt h
-
--- after a flip of a register, what holds of each other register or slot
-flip_damage-other : (own cell : Cell) (key r e x : ℕ) → key ≢ r → x < 2 ^ 64 → Holds key cell Nothing x → Holds key cell (flip_damage own r e) x
-flip_damage-other Free cell key r e x ne wide h = h
-flip_damage-other (Has tag v) cell key r e x ne wide h = tag_damage-other cell tag key r e x ne wide h
-
-slots-flip_damage : (own : Cell) (c : Assertion) (r e : ℕ) (bytes : List ℕ) → r < 32 → SlotsHold c.slots Nothing bytes → SlotsHold c.slots (flip_damage own r e) bytes
-slots-flip_damage Free c r e bytes small h = h
-slots-flip_damage (Has tag v) c r e bytes small h = slots-tag_damage c.slots tag r e bytes small h
-
--- by how much a register changes modulo 2^64 when its bit b is flipped
-abbrev pub change_of : ℕ → ℕ → ℕ
-change_of x b = (bit_xor x (2 ^ b) + 2 ^ 64 - x) % 2 ^ 64
-
-pub meets_flipped : (words : List ℕ) (c : Assertion) (s : MachineState) (r b : ℕ) → Meets words c Nothing s → 0 < r → r < 32 → b < 64 → ((v : ℕ) → c.regs r ≡ Has Sure v → ⊥) → Meets words c (flip_damage (c.regs r) r (change_of (register s r) b)) (flipped r b s)
+pub meets_flipped : (words : List ℕ) (c : Assertion) (s : MachineState) (r b : ℕ) → Meets words c Nothing s → 0 < r → r < 32 → b < 64 → ((v : ℕ) → c.regs r ≡ Has Sure v → ⊥) → Meets words c (flip_damage (c.regs r)) (flipped r b s)
 meets_flipped words c s r b meets nonzero small bit safe =
-    let x = register s r in
     let y = bit_xor (register s r) (2 ^ b) in
-    let y_wide : bit_xor (register s r) (2 ^ b) < 2 ^ 64 = xor_lt 64 (register s r) (2 ^ b) (meets.wide r) (bit_small b bit) in
+    let y_wide : bit_xor (register s r) (2 ^ b) < 2 ^ 64 = xor_lt 64 (register s r) (2 ^ b) (meets.wide r) (pow-lt bit) in
     let there : r < length s.regs = omega (arith, meets.count) in
     record {
       data_bytes = meets.data_bytes;
@@ -45,21 +27,21 @@ meets_flipped words c s r b meets nonzero small bit safe =
       count = length-set_register s r y ∙ meets.count;
       segments = segments-set_register s r y ∙ meets.segments;
       size = meets.size;
-      slots = slots-flip_damage (c.regs r) c r (change_of (register s r) b) meets.data_bytes small meets.slots;
-      regions = meets.regions;
+      small = meets.small;
+      slots = λ k. undamaged_holds (c.slots k) (number_at (8 * k) meets.data_bytes) (flip_damage (c.regs r)) (meets.slots k);
+      bytes = meets.bytes;
       input = input-set_register s r y ∙ meets.input;
       out = out-set_register s r y ∙ meets.out;
     }
   where
-    each : (q : ℕ) (t : Bool) → (q == r) ≡ t → bit_xor (register s r) (2 ^ b) < 2 ^ 64 → r < length s.regs →
-        Holds q (c.regs q) (flip_damage (c.regs r) r (change_of (register s r) b)) (register (flipped r b s) q)
+    each : (q : ℕ) (t : Bool) → (q == r) ≡ t → bit_xor (register s r) (2 ^ b) < 2 ^ 64 → r < length s.regs → Holds (c.regs q) (flip_damage (c.regs r)) (register (flipped r b s) q)
     each q true e wide there =
         let same : r ≡ q = grind (arith, nat_tests) in
-        let P : ℕ → Type 0 = λ k. Holds k (c.regs k) (flip_damage (c.regs r) r (change_of (register s r) b)) (register (flipped r b s) k) in
-        subst P same (rw (register-set_same s r (bit_xor (register s r) (2 ^ b)) nonzero there) (flip_damage-own (c.regs r) r (register s r) (bit_xor (register s r) (2 ^ b)) safe (meets.wide r) wide (meets.regs r)))
+        let P : ℕ → Type 0 = λ k. Holds (c.regs k) (flip_damage (c.regs r)) (register (flipped r b s) k) in
+        subst P same (rw (register-set_same s r (bit_xor (register s r) (2 ^ b)) nonzero there) (flip_own (c.regs r) (register s r) b safe (meets.wide r) wide bit (meets.regs r)))
     each q false e wide there =
         let other : q ≢ r = grind (arith, nat_tests) in
-        rw (register-set_other s r q (bit_xor (register s r) (2 ^ b)) other) (flip_damage-other (c.regs r) (c.regs q) q r (change_of (register s r) b) (register s q) other (meets.wide q) (meets.regs q))
+        rw (register-set_other s r q (bit_xor (register s r) (2 ^ b)) other) (undamaged_holds (c.regs q) (register s q) (flip_damage (c.regs r)) (meets.regs q))
 
 -- the flip strikes now
 struck_now : (words : List ℕ) (listed : ℕ → ℕ → Type 0) (c : Assertion) (s : MachineState) (f : Flip) → Covered listed c → Meets words c Nothing s → FlipFits f → IsOutside listed s f → f.at ≡ 0 → Ready words listed c s (Some f)
@@ -72,7 +54,7 @@ struck_now words listed c s f covered meets fits outside now =
     let none : later (Some f) ≡ None = ap (λ b. cond b None (Some (record f { at = f.at - 1 }))) at_zero in
     record {
       now = flipped f.reg f.bit s;
-      damage = flip_damage (c.regs f.reg) f.reg (change_of (register s f.reg) f.bit);
+      damage = flip_damage (c.regs f.reg);
       rest = None;
       meets = meets_flipped words c s f.reg f.bit meets fits.0 fits.1 fits.2 (λ v is. unlisted (covered f.reg v is fits.0));
       goes = λ k. run-suc k s (Some f) ∙ rw (turned, none, meets.out) refl;

@@ -6,6 +6,5 @@ pub mod KnownRegisters
 pub mod StartLaws
 pub mod Windows
 pub mod EndingLaws
-pub mod SlotLemmas
 pub mod Fetch
 pub mod ComputingLaw

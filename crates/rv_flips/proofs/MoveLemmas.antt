@@ -10,11 +10,6 @@ use Rattle.rv_flips.specs.Assertion.{Assertion, Meets}
 use Rattle.rv_flips.specs.Moves.{Pending, Covered, Ready, Arrives, Moves, Does, EndsWithin, Finishes}
 use Rattle.rv_flips.proofs.FlipLemmas.{ready}
 
--- a flip that is still to come is so after a step that damages nothing
-pending_kept : (listed : ℕ → ℕ → Type 0) (damage damage' : Damage) (t : MachineState) (f : Option Flip) → (damage ≡ Nothing → damage' ≡ Nothing) → Pending listed damage t f → Pending listed damage' t f
-pending_kept listed damage damage' t None keeps h = tt
-pending_kept listed damage damage' t (Some f) keeps h = record { undamaged = keeps h.undamaged; fits = h.fits; outside = h.outside }
-
 -- where something is damaged, no flip is to come
 pub settled : (listed : ℕ → ℕ → Type 0) (damage : Damage) (s : MachineState) (f : Option Flip) → (damage ≡ Nothing → ⊥) → Pending listed damage s f → f ≡ None
 settled listed damage s None wrong h = refl
@@ -30,7 +25,7 @@ one_word words listed c d covered word s f good =
       state = w.state;
       flip = r.rest;
       few = omega arith;
-      good = record { damage = w.damage; meets = w.meets; pending = pending_kept listed r.damage w.damage w.state r.rest w.keeps (r.pending w.state w.goes) };
+      good = record { damage = r.damage; meets = w.meets; pending = r.pending w.state w.goes };
       goes = λ k.
           let first : 1 + k ≡ suc k = omega arith in
           ap (λ n. run n s f) first ∙ r.goes k ∙ ap (λ (x : StepResult). after x c.out (λ t. run k t r.rest)) w.goes;

@@ -39,22 +39,22 @@ abbrev pub AllPass : ℕ → Form → List Form → Type 0
 AllPass r first [] = Unit {0}
 AllPass r first (i ∷ is) = IsTrue (passes r first (Some i)) × AllPass r first is
 
-all_pass : (r : ℕ) (first : Form) (q : ℕ) (is : List Form) → AllPass r first is → All (λ p. IsTrue (passes r first p.instruction)) (places_from q is)
+pub all_pass : (r : ℕ) (first : Form) (q : ℕ) (is : List Form) → AllPass r first is → All (λ p. IsTrue (passes r first p.instruction)) (places_from q is)
 all_pass r first q [] h = All-nil (λ p. IsTrue (passes r first p.instruction))
 all_pass r first q (i ∷ is) h = All-cons (λ p. IsTrue (passes r first p.instruction)) (place_of q i) (places_from (q + 4) is) h.0 (all_pass r first (q + 4) is h.1)
 
-length-places_from : (q : ℕ) (is : List Form) → length (places_from q is) ≡ length is
+pub length-places_from : (q : ℕ) (is : List Form) → length (places_from q is) ≡ length is
 length-places_from q [] = refl
 length-places_from q (i ∷ is) = ap suc (length-places_from (q + 4) is)
 
-places_from-append : (q : ℕ) (is : List Form) (j : Form) → places_from q (is ++ j ∷ []) ≡ places_from q is ++ place_of (q + 4 * length is) j ∷ []
+pub places_from-append : (q : ℕ) (is : List Form) (j : Form) → places_from q (is ++ j ∷ []) ≡ places_from q is ++ place_of (q + 4 * length is) j ∷ []
 places_from-append q [] j = let same : q ≡ q + 4 * 0 = omega arith in ap (λ p. place_of p j ∷ []) same
 places_from-append q (i ∷ is) j =
     let same : q + 4 + 4 * length is ≡ q + 4 * suc (length is) = omega arith in
     ap (λ ps. place_of q i ∷ ps) (places_from-append (q + 4) is j ∙ ap (λ p. places_from (q + 4) is ++ place_of p j ∷ []) same)
 
 -- the address of the instruction with index n is on the way
-on_way : (q : ℕ) (is : List Form) (n : ℕ) → n < length is → Any (λ p. p.address ≡ q + 4 * n) (places_from q is)
+pub on_way : (q : ℕ) (is : List Form) (n : ℕ) → n < length is → Any (λ p. p.address ≡ q + 4 * n) (places_from q is)
 on_way q [] n h = absurd (omega arith)
 on_way q (i ∷ is) zero h = (0, place_of q i, omega arith, refl, omega arith)
 on_way q (i ∷ is) (suc n) h = there (on_way (q + 4) is n (omega arith))

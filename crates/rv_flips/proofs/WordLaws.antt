@@ -1,6 +1,6 @@
 -- What words do, with each damage.
-use Rattle.std.proofs.Common.{◌≡◌, ◌≢◌, ℕ, ◌%◌, ◌<◌, ◌^◌, ◌==◌, Bool, true, false, List, length, refl, ◌∙◌, ap, subst, arith}
-use Rattle.std.specs.Prelude.{ℤ, pos}
+use Rattle.std.proofs.Common.{◌≡◌, ◌≢◌, ℕ, ◌*◌, ◌%◌, ◌<◌, ◌^◌, ◌==◌, Bool, true, false, List, length, refl, sym, ◌∙◌, ap, subst, arith}
+use Rattle.std.specs.Prelude.{ℤ, pos, slice_index}
 use Rattle.std.proofs.lemmas.Bool.Decides.{nat_tests}
 use Rattle.rv_inst.specs.declared.instruction.Form.{Form}
 use Rattle.rv_inst.specs.declared.instruction.Form.TheVariants.{LUI, ADDI, ECALL}
@@ -11,35 +11,15 @@ use Rattle.rv_model.specs.Text.{Stands}
 use Rattle.rv_model.proofs.RegisterLemmas.{register-set_same, register-set_other, length-set_register, bound-set_register, pc-set_register, segments-set_register, input-set_register, out-set_register}
 use Rattle.rv_model.proofs.TextLemmas.{step-stands}
 use Rattle.rv_model.proofs.ActLemmas.{act-LUI, act-ADDI, act-ECALL, called-ends, upper_value_small}
-use Rattle.rv_flips.specs.Cells.{Damage, Nothing, First, Second, Third, Plains, Codes, Tag, Sure, One, Two, Three, Plain, Code, Cell, Free, Has, Holds, with_error, error_of}
-use Rattle.rv_flips.specs.Assertion.{Assertion, Meets, with_register, after_write}
+use Rattle.rv_flips.specs.Cells.{Damage, Tag, Sure, Cell, Has, Holds}
+use Rattle.rv_flips.specs.Assertion.{Assertion, Meets, KnowsLess, number_at, with_register, after_write}
 use Rattle.rv_flips.specs.Moves.{Covered, Does, Moves, Finishes}
-use Rattle.rv_flips.proofs.CellLemmas.{same_test, holds_sure, error_other, error_undamaged, slots_error, with_register-same, with_register-other}
+use Rattle.rv_flips.proofs.CellLemmas.{right_kept, holds_sure, with_register-same, with_register-other}
 use Rattle.rv_flips.proofs.MoveLemmas.{one_word, last_word}
 
--- a right value that is written may be kept by any tag, where the register's error is 0 from here
-pub right_holds : (tag : Tag) (key v x : ℕ) (damage : Damage) → x ≡ v → v < 2 ^ 64 → Holds key (Has tag v) (with_error key 0 damage) x
-right_holds One key v x First e small = tt
-right_holds Two key v x Second e small = tt
-right_holds Three key v x Third e small = tt
-right_holds Plain key v x Plains e small = tt
-right_holds Code key v x (Codes errors) e small = let own = same_test key in rw own (omega arith)
-right_holds Sure key v x Nothing e small = e
-right_holds _ key v x _ e small = e
-
--- a copy is kept as what it is a copy of, with its error
-pub copy_holds : (tag : Tag) (key from v x : ℕ) (damage : Damage) → Holds from (Has tag v) damage x → Holds key (Has tag v) (with_error key (error_of from damage) damage) x
-copy_holds One key from v x First h = tt
-copy_holds Two key from v x Second h = tt
-copy_holds Three key from v x Third h = tt
-copy_holds Plain key from v x Plains h = tt
-copy_holds Code key from v x (Codes errors) h = let own = same_test key in rw own h
-copy_holds Sure key from v x Nothing h = h
-copy_holds _ key from v x _ h = h
-
 -- a register is written, and the word after comes next
-pub meets_put : (words : List ℕ) (c : Assertion) (damage : Damage) (s : MachineState) (d v e p : ℕ) (cell : Cell) → Meets words c damage s → 0 < d → d < 32 → v < 2 ^ 64 → Holds d cell (with_error d e damage) v → plus64 c.pc 4 ≡ p → Meets words (after_write c d cell p) (with_error d e damage) (next (set_register s d v))
-meets_put words c damage s d v e p cell meets nonzero small wide holds at =
+pub meets_put : (words : List ℕ) (c : Assertion) (damage : Damage) (s : MachineState) (d v p : ℕ) (cell : Cell) → Meets words c damage s → 0 < d → d < 32 → v < 2 ^ 64 → Holds cell damage v → plus64 c.pc 4 ≡ p → Meets words (after_write c d cell p) damage (next (set_register s d v))
+meets_put words c damage s d v p cell meets nonzero small wide holds at =
     let there : d < length s.regs = omega (arith, meets.count) in
     record {
       data_bytes = meets.data_bytes;
@@ -49,30 +29,29 @@ meets_put words c damage s d v e p cell meets nonzero small wide holds at =
       count = length-set_register s d v ∙ meets.count;
       segments = segments-set_register s d v ∙ meets.segments;
       size = meets.size;
-      slots = slots_error c.slots d e damage meets.data_bytes small meets.slots;
-      regions = meets.regions;
+      small = meets.small;
+      slots = meets.slots;
+      bytes = meets.bytes;
       input = input-set_register s d v ∙ meets.input;
       out = out-set_register s d v ∙ meets.out;
     }
   where
-    each : (q : ℕ) (t : Bool) → (q == d) ≡ t → d < length s.regs → Holds q (with_register c.regs d cell q) (with_error d e damage) (register (set_register s d v) q)
+    each : (q : ℕ) (t : Bool) → (q == d) ≡ t → d < length s.regs → Holds (with_register c.regs d cell q) damage (register (set_register s d v) q)
     each q true same there =
         let is : d ≡ q = grind (arith, nat_tests) in
-        let P : ℕ → Type 0 = λ k. Holds k (with_register c.regs d cell k) (with_error d e damage) (register (set_register s d v) k) in
+        let P : ℕ → Type 0 = λ k. Holds (with_register c.regs d cell k) damage (register (set_register s d v) k) in
         subst P is (rw (with_register-same c.regs d cell, register-set_same s d v nonzero there) holds)
     each q false same there =
         let other : q ≢ d = grind (arith, nat_tests) in
-        rw (with_register-other c.regs d q cell other, register-set_other s d q v other) (error_other (c.regs q) q d e (register s q) damage other (meets.regs q))
+        rw (with_register-other c.regs d q cell other, register-set_other s d q v other) (meets.regs q)
 
 -- a word that writes a register and nothing else
-pub does_put : (words : List ℕ) (c : Assertion) (damage : Damage) (s : MachineState) (d v e p : ℕ) (cell : Cell) → Meets words c damage s → 0 < d → d < 32 → v < 2 ^ 64 → Holds d cell (with_error d e damage) v → plus64 c.pc 4 ≡ p → step s ≡ put d v s → Does words damage s (after_write c d cell p)
-does_put words c damage s d v e p cell meets nonzero small wide holds at goes =
+pub does_put : (words : List ℕ) (c : Assertion) (damage : Damage) (s : MachineState) (d v p : ℕ) (cell : Cell) → Meets words c damage s → 0 < d → d < 32 → v < 2 ^ 64 → Holds cell damage v → plus64 c.pc 4 ≡ p → step s ≡ put d v s → Does words damage s (after_write c d cell p)
+does_put words c damage s d v p cell meets nonzero small wide holds at goes =
     record {
       state = next (set_register s d v);
-      damage = with_error d e damage;
       goes = goes;
-      keeps = error_undamaged d e damage;
-      meets = meets_put words c damage s d v e p cell meets nonzero small wide holds at;
+      meets = meets_put words c damage s d v p cell meets nonzero small wide holds at;
     }
 
 -- the step of a state that meets an assertion is the act of the instruction at its pc
@@ -88,20 +67,20 @@ upper_moves words listed c d p imm tag nonzero at stands covered = one_word word
         let fits : Fits (LUI d imm) = stands.is_word.0 in
         let small : upper_value imm < 2 ^ 64 = upper_value_small imm fits.1 in
         let goes : step s ≡ put d (upper_value imm) s = step_here words c damage s (LUI d imm) meets stands ∙ act-LUI d imm s in
-        does_put words c damage s d (upper_value imm) 0 p (Has tag (upper_value imm)) meets nonzero fits.0 small (right_holds tag d (upper_value imm) (upper_value imm) damage refl small) at goes
+        does_put words c damage s d (upper_value imm) p (Has tag (upper_value imm)) meets nonzero fits.0 small (right_kept tag (upper_value imm) (upper_value imm) damage refl) at goes
 
--- a copy by ADDI of 0, kept as what it is a copy of
-pub copy_moves : (words : List ℕ) (listed : ℕ → ℕ → Type 0) (c : Assertion) (d a p v : ℕ) (tag : Tag) → c.regs a ≡ Has tag v → 0 < d → plus64 c.pc 4 ≡ p → Stands words c.pc (ADDI d a (pos 0)) → Covered listed c → Moves words listed c 1 (after_write c d (Has tag v) p)
-copy_moves words listed c d a p v tag has nonzero at stands covered = one_word words listed c _ covered does
+-- a copy by ADDI of 0, of which is known what is known of the register that it is a copy of
+pub copy_moves : (words : List ℕ) (listed : ℕ → ℕ → Type 0) (c : Assertion) (d a p : ℕ) (cell : Cell) → c.regs a ≡ cell → 0 < d → plus64 c.pc 4 ≡ p → Stands words c.pc (ADDI d a (pos 0)) → Covered listed c → Moves words listed c 1 (after_write c d cell p)
+copy_moves words listed c d a p cell has nonzero at stands covered = one_word words listed c _ covered does
   where
-    does : (damage : Damage) (s : MachineState) → Meets words c damage s → Does words damage s (after_write c d (Has tag v) p)
+    does : (damage : Damage) (s : MachineState) → Meets words c damage s → Does words damage s (after_write c d cell p)
     does damage s meets =
         let fits : Fits (ADDI d a (pos 0)) = stands.is_word.0 in
         let wide : register s a < 2 ^ 64 = meets.wide a in
-        let P : Cell → Type 0 = λ cell. Holds a cell damage (register s a) in
+        let P : Cell → Type 0 = λ known. Holds known damage (register s a) in
         let value : plus64 (register s a) 0 ≡ register s a = omega arith in
         let goes : step s ≡ put d (register s a) s = step_here words c damage s (ADDI d a (pos 0)) meets stands ∙ act-ADDI d a (pos 0) s ∙ ap (λ v. put d v s) value in
-        does_put words c damage s d (register s a) (error_of a damage) p (Has tag v) meets nonzero fits.0 wide (copy_holds tag d a v (register s a) damage (subst P has (meets.regs a))) at goes
+        does_put words c damage s d (register s a) p cell meets nonzero fits.0 wide (subst P has (meets.regs a)) at goes
 
 -- the call that ends the program with the lowest byte of x10
 pub exit_finishes : (words : List ℕ) (listed : ℕ → ℕ → Type 0) (c : Assertion) (n : ℕ) → c.regs 17 ≡ Has Sure 93 → c.regs 10 ≡ Has Sure n → Stands words c.pc ECALL → Covered listed c → Finishes words listed c 1 c.out (n % 256)
@@ -109,14 +88,14 @@ exit_finishes words listed c n number status stands covered = last_word words li
   where
     ends : (damage : Damage) (s : MachineState) → Meets words c damage s → step s ≡ Ends (n % 256)
     ends damage s meets =
-        let P : Cell → Type 0 = λ cell. Holds 17 cell damage (register s 17) in
-        let Q : Cell → Type 0 = λ cell. Holds 10 cell damage (register s 10) in
-        let x17 : register s 17 ≡ 93 = holds_sure 17 93 (register s 17) damage (subst P number (meets.regs 17)) in
-        let x10 : register s 10 ≡ n = holds_sure 10 n (register s 10) damage (subst Q status (meets.regs 10)) in
+        let P : Cell → Type 0 = λ cell. Holds cell damage (register s 17) in
+        let Q : Cell → Type 0 = λ cell. Holds cell damage (register s 10) in
+        let x17 : register s 17 ≡ 93 = holds_sure 93 (register s 17) damage (subst P number (meets.regs 17)) in
+        let x10 : register s 10 ≡ n = holds_sure n (register s 10) damage (subst Q status (meets.regs 10)) in
         step_here words c damage s ECALL meets stands ∙ act-ECALL s ∙ called-ends s n x17 x10
 
 -- another cell of a register that holds what this cell says too
-pub meets_cell : (words : List ℕ) (c : Assertion) (r : ℕ) (cell : Cell) (damage : Damage) (s : MachineState) → Meets words c damage s → Holds r cell damage (register s r) → Meets words (record c { regs = with_register c.regs r cell }) damage s
+pub meets_cell : (words : List ℕ) (c : Assertion) (r : ℕ) (cell : Cell) (damage : Damage) (s : MachineState) → Meets words c damage s → Holds cell damage (register s r) → Meets words (record c { regs = with_register c.regs r cell }) damage s
 meets_cell words c r cell damage s meets holds =
     record {
       data_bytes = meets.data_bytes;
@@ -126,19 +105,34 @@ meets_cell words c r cell damage s meets holds =
       count = meets.count;
       segments = meets.segments;
       size = meets.size;
+      small = meets.small;
       slots = meets.slots;
-      regions = meets.regions;
+      bytes = meets.bytes;
       input = meets.input;
       out = meets.out;
     }
   where
-    each : (q : ℕ) (b : Bool) → (q == r) ≡ b → Holds q (with_register c.regs r cell q) damage (register s q)
+    each : (q : ℕ) (b : Bool) → (q == r) ≡ b → Holds (with_register c.regs r cell q) damage (register s q)
     each q true e =
         let is : r ≡ q = grind (arith, nat_tests) in
-        let P : ℕ → Type 0 = λ k. Holds k (with_register c.regs r cell k) damage (register s k) in
+        let P : ℕ → Type 0 = λ k. Holds (with_register c.regs r cell k) damage (register s k) in
         subst P is (rw (with_register-same c.regs r cell) holds)
     each q false e = let other : q ≢ r = grind (arith, nat_tests) in rw (with_register-other c.regs r q cell other) (meets.regs q)
 
--- what is known of a register is forgotten
-pub meets_free : (words : List ℕ) (c : Assertion) (r : ℕ) (damage : Damage) (s : MachineState) → Meets words c damage s → Meets words (record c { regs = with_register c.regs r Free }) damage s
-meets_free words c r damage s meets = meets_cell words c r Free damage s meets tt
+-- a state that meets an assertion meets one that says less
+pub meets_less : (words : List ℕ) (c d : Assertion) (damage : Damage) (s : MachineState) → KnowsLess c d → Meets words c damage s → Meets words d damage s
+meets_less words c d damage s less meets =
+    record {
+      data_bytes = meets.data_bytes;
+      pc = meets.pc ∙ sym less.pc;
+      regs = λ q. less.regs q damage (register s q) (meets.regs q);
+      wide = meets.wide;
+      count = meets.count;
+      segments = meets.segments;
+      size = meets.size ∙ sym less.size;
+      small = meets.small;
+      slots = λ k. less.slots k damage (number_at (8 * k) meets.data_bytes) (meets.slots k);
+      bytes = λ o. less.bytes o (slice_index meets.data_bytes o) (meets.bytes o);
+      input = meets.input ∙ sym less.input;
+      out = meets.out ∙ sym less.out;
+    }

@@ -1,17 +1,18 @@
--- What a register or a slot of memory is known to hold, whatever one flip has damaged.
-use Rattle.std.specs.Prelude.{◌≡◌, ℕ, ◌+◌, ◌%◌, ◌^◌, ◌==◌, if◌then◌else◌}
+-- What a register or eight bytes of memory are known to hold, whatever one flip has damaged.
+use Rattle.std.specs.Prelude.{◌≡◌, ℕ, ◌+◌, ◌-◌, ◌%◌, ◌<◌, ◌^◌, ◌⊎◌, ◌&&◌, nat_le, if◌then◌else◌}
 
--- what is damaged: nothing; first copies, second copies or third copies; plain versions of pairs; or code words of pairs, each by an
--- error modulo 2^64 of its own. An error goes by its key: a register's number, or the key of a slot.
+-- what is damaged: nothing; first copies, second copies or third copies; plain versions of pairs; or code words of pairs, and of those
+-- that are made of checked leaves only the ones that are made of the leaf with this number
 pub data Damage : Type 0 where
   Nothing : Damage
   First : Damage
   Second : Damage
   Third : Damage
   Plains : Damage
-  Codes : (errors : ℕ → ℕ) → Damage
+  Codes : (leaf : ℕ) → Damage
 
--- how a value is kept: for sure, so right whatever is damaged; as one of three copies; as the plain version or the code word of a pair
+-- how a value is kept: for sure, so right whatever is damaged; as one of three copies; as the plain version of a pair; as a code word of
+-- which no more is known; or as a code word that is made of the checked leaves numbered first to first + more
 pub data Tag : Type 0 where
   Sure : Tag
   One : Tag
@@ -19,62 +20,65 @@ pub data Tag : Type 0 where
   Three : Tag
   Plain : Tag
   Code : Tag
+  Leaf : (first more : ℕ) → Tag
 
--- what becomes of a kept value: it is as it was, it is lost, or it is off by an error
+-- what becomes of a kept value: it is as it was, it is lost, or it is right or off by a power of two
 pub data Effect : Type 0 where
   Intact : Effect
   Lost : Effect
-  OffBy : (error : ℕ) → Effect
+  Near : Effect
 
--- what a damage does to a value with this tag, in the register or slot with this key
-abbrev pub effect : ℕ → Tag → Damage → Effect
-effect key One First = Lost
-effect key Two Second = Lost
-effect key Three Third = Lost
-effect key Plain Plains = Lost
-effect key Code (Codes errors) = OffBy (errors key)
-effect key _ _ = Intact
+-- what a damage does to a value with this tag
+abbrev pub effect : Tag → Damage → Effect
+effect One First = Lost
+effect Two Second = Lost
+effect Three Third = Lost
+effect Plain Plains = Lost
+effect Code (Codes leaf) = Near
+effect (Leaf first more) (Codes leaf) = if nat_le first leaf && nat_le leaf (first + more) then Near else Intact
+effect _ _ = Intact
 
--- what is known of a register or a slot: nothing, or that it keeps a value
+-- what is known of a register or of eight bytes: nothing, or that they keep a value
 pub data Cell : Type 0 where
   Free : Cell
   Has : (tag : Tag) (value : ℕ) → Cell
+
+-- x is v with one power of two added or taken away, modulo 2^64
+pub record IsOff (v x : ℕ) : Type 0 where
+  pub bit : ℕ
+  pub small : bit < 64
+  pub off : (x ≡ (v + 2 ^ bit) % 2 ^ 64) ⊎ (x ≡ (v + (2 ^ 64 - 2 ^ bit)) % 2 ^ 64)
+
+-- x is right, or off by a power of two
+abbrev pub IsNear : ℕ → ℕ → Type 0
+IsNear v x = (x ≡ v) ⊎ IsOff v x
 
 -- x is what this effect leaves of the value v
 abbrev pub HoldsAfter : Effect → ℕ → ℕ → Type 0
 HoldsAfter Intact v x = x ≡ v
 HoldsAfter Lost v x = Unit {0}
-HoldsAfter (OffBy error) v x = x ≡ (v + error) % 2 ^ 64
+HoldsAfter Near v x = IsNear v x
 
--- the register or slot with this key, of which the cell is known, may hold x with this damage
-abbrev pub Holds : ℕ → Cell → Damage → ℕ → Type 0
-Holds key Free damage x = Unit {0}
-Holds key (Has tag v) damage x = HoldsAfter (effect key tag damage) v x
+-- where the cell is known, x may be held with this damage
+abbrev pub Holds : Cell → Damage → ℕ → Type 0
+Holds Free damage x = Unit {0}
+Holds (Has tag v) damage x = HoldsAfter (effect tag damage) v x
 
--- one error, of one key
-abbrev pub error_at : ℕ → ℕ → ℕ → ℕ
-error_at key e k = if k == key then e else 0
-
--- the damage by a flip of a register whose value has this tag, where nothing was damaged before: it changed by e modulo 2^64
-abbrev pub tag_damage : Tag → ℕ → ℕ → Damage
-tag_damage Sure key e = Nothing
-tag_damage One key e = First
-tag_damage Two key e = Second
-tag_damage Three key e = Third
-tag_damage Plain key e = Plains
-tag_damage Code key e = Codes (error_at key e)
+-- the damage by a flip of a register whose value has this tag, where nothing was damaged before
+abbrev pub tag_damage : Tag → Damage
+tag_damage Sure = Nothing
+tag_damage One = First
+tag_damage Two = Second
+tag_damage Three = Third
+tag_damage Plain = Plains
+tag_damage Code = Codes 0
+tag_damage (Leaf first more) = Codes first
 
 -- the damage by a flip of a register with this cell
-abbrev pub flip_damage : Cell → ℕ → ℕ → Damage
-flip_damage Free key e = Nothing
-flip_damage (Has tag v) key e = tag_damage tag key e
+abbrev pub flip_damage : Cell → Damage
+flip_damage Free = Nothing
+flip_damage (Has tag v) = tag_damage tag
 
--- the damage with another error at one key
-abbrev pub with_error : ℕ → ℕ → Damage → Damage
-with_error key e (Codes errors) = Codes (λ k. if k == key then e else errors k)
-with_error key e damage = damage
-
--- the error at a key
-abbrev pub error_of : ℕ → Damage → ℕ
-error_of key (Codes errors) = errors key
-error_of key _ = 0
+-- a second cell says no more than a first one: whatever the first one lets stand, it lets stand
+abbrev pub SaysLess : Cell → Cell → Type 0
+SaysLess more less = (damage : Damage) (x : ℕ) → Holds more damage x → Holds less damage x

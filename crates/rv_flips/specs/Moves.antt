@@ -51,12 +51,10 @@ pub record Arrives (words : List ℕ) (listed : ℕ → ℕ → Type 0) (c : Ass
 abbrev pub Moves : List ℕ → (ℕ → ℕ → Type 0) → Assertion → ℕ → Assertion → Type 0
 Moves words listed c n d = (s : MachineState) (f : Option Flip) → Good words listed c s f → Arrives words listed d n s f
 
--- what one word does to a state: the machine goes on in a state that meets d, and nothing is damaged where nothing was before
-pub record Does (words : List ℕ) (before : Damage) (s : MachineState) (d : Assertion) : Type 0 where
+-- what one word does to a state: the machine goes on in a state that meets d with the same damage
+pub record Does (words : List ℕ) (damage : Damage) (s : MachineState) (d : Assertion) : Type 0 where
   pub state : MachineState
-  pub damage : Damage
   pub goes : step s ≡ Continues state
-  pub keeps : before ≡ Nothing → damage ≡ Nothing
   pub meets : Meets words d damage state
 
 -- the run ends with this output and status after at most n instructions

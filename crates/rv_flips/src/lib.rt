@@ -2,7 +2,7 @@
 //! flipped before, outside a list of points. Definitions and laws; there is no code here.
 #![tactic(auto)]
 
-ghost use Rattle.std.specs.Prelude.{◌+◌, ◌*◌, ◌%◌, ℕ, ℤ, List, [], length};
+ghost use Rattle.std.specs.Prelude.{◌+◌, ◌*◌, ◌%◌, ◌^◌, ◌<◌, ℕ, ℤ, List, [], length, All};
 ghost use Rattle.rv_inst.specs.Window.{IsWindowPoint};
 ghost use Rattle.rv_model.specs.Start.{program_image};
 ghost use Rattle.rv_model.specs.Step.{bits64};
@@ -17,7 +17,8 @@ ghost use Rattle.rv_flips.specs.Fetching.{Fetches};
 /// flipped before any instruction at a point outside a list of three; and each of these is a window point of
 /// the text.
 pub fn ending_survives()
-    ensures survives { (words init input : List ℕ) (extra : ℕ) (n : ℤ) → WordsOf words (ending_words n) →
+    ensures survives { (words init input : List ℕ) (extra : ℕ) (n : ℤ) → All (λ b. b < 2 ^ 8) init →
+        WordsOf words (ending_words n) →
         Survives (program_image words init extra) ending_points input [] (bits64 n % 256)
         (2 * (length words + 1)) }
     ensures listed { (words : List ℕ) (n : ℤ) (p r : ℕ) → WordsOf words (ending_words n) →

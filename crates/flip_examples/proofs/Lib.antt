@@ -1,0 +1,2 @@
+pub mod AdditionWords
+pub mod AdditionRun

@@ -1,0 +1,4 @@
+pub mod Views
+pub mod Computing
+pub mod Slots
+pub mod Fetching
