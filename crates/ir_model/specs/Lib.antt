@@ -1,0 +1,10 @@
+pub mod Values
+pub mod Memory
+pub mod MemoryFacts
+pub mod Integers
+pub mod Pointers
+pub mod Operations
+pub mod Programs
+pub mod States
+pub mod Steps
+pub mod Runs

@@ -1,0 +1,6 @@
+pub mod Sizes
+pub mod Strides
+pub mod Constants
+pub mod Operands
+pub mod Frames
+pub mod ProgramOf

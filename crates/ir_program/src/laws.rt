@@ -1,0 +1,19 @@
+//! The laws of sizes.
+
+ghost use Rattle.std.specs.Prelude.{◌≡◌, List};
+ghost use Rattle.ir_tree.specs.Shape.{TyShape, TyShapes, NamedTyShape};
+ghost use Rattle.ir_layout.specs.declared.sizes.Layout.{Layout};
+ghost use Rattle.ir_layout.specs.Rules.{HasLayout, HaveLayouts};
+ghost use Rattle.ir_rules.specs.Constants.{Opens};
+ghost use Rattle.ir_program.specs.Sizes.{layout_of, row_layouts, opened};
+
+/// Proves that types which have layouts have those that programs count with, and open to the arrays and
+/// structures that programs step into.
+pub fn sizes_are_those_of_layouts()
+    ensures types { (ts : List NamedTyShape) (t : TyShape) (l : Layout) → HasLayout ts t l →
+        layout_of ts t ≡ l }
+    ensures fields { (ts : List NamedTyShape) (row : TyShapes) (ls : List Layout) →
+        HaveLayouts ts row ls → row_layouts ts row ≡ ls }
+    ensures opened { (ts : List NamedTyShape) (t u : TyShape) (l : Layout) → HasLayout ts t l →
+        Opens ts t u → opened ts t ≡ u }
+{}
