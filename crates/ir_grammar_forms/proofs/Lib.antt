@@ -1,0 +1,4 @@
+mod Rows
+mod TypeForms
+mod BodyForms
+pub mod ModuleForms
