@@ -128,7 +128,7 @@ case_counts unreachable = []
 abbrev pub AreCounts : ModuleShape → Which → List ℕ → Type 0
 AreCounts m Functions counts = counts ≡ length m.functions ∷ []
 AreCounts m Params counts = counts ≡ map (λ f. length f.params) m.functions
-AreCounts m Results counts = counts ≡ map result_count m.functions
+AreCounts m Results counts = counts ≡ map (λ f. capped (result_count f)) m.functions
 AreCounts m Cases counts = counts ≡ flat_map (λ f. flat_map (λ x. case_counts x.body) (all_insts f)) m.functions
 AreCounts m Frame counts = HaveFrames m.types m.functions counts
 AreCounts m Globals counts = (room : ℕ) × HaveRoom m.types m.globals room × (counts ≡ capped room ∷ [])
