@@ -4,5 +4,5 @@ mod Spotted
 mod EachItem
 mod EachInst
 mod Checked
-mod NoFaults
+pub mod NoFaults
 mod NamesChecked

@@ -18,7 +18,7 @@ no_name_fault p at names (inr (inr clash)) = names.apart clash.one clash.other c
 pub no_type_fault : (p : Parsed) (at : ℕ) → HasTypes (module_shape p.«module») → TypeFault p at → ⊥
 no_type_fault p at types fault = fault.2 (types fault.0)
 
-one_first : (Fault : ℕ → Type 0) (one other : ℕ) → IsFirst Fault (Some one) → IsFirst Fault (Some other) → one ≡ other
+pub one_first : (Fault : ℕ → Type 0) (one other : ℕ) → IsFirst Fault (Some one) → IsFirst Fault (Some other) → one ≡ other
 one_first Fault one other first second =
     let low : one ≤ other = first.1 other second.0 in
     let high : other ≤ one = second.1 one first.0 in
