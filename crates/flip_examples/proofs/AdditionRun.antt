@@ -1,16 +1,14 @@
 -- The text does what it shall.
-use Rattle.std.proofs.Common.{◌≡◌, ◌≢◌, ℕ, ◌+◌, ◌*◌, ◌≤◌, List, [], ◌∷◌, ◌++◌, length, Option, Some, None, refl, sym, ◌∙◌, arith, append-nil, lit≤, lit<}
-use Rattle.rv_inst.specs.declared.instruction.Form.{Form}
+use Rattle.std.proofs.Common.{ℕ, ◌+◌, ◌*◌, ◌≤◌, [], ◌∷◌, Some, refl, sym, ◌∙◌, arith, append-nil, lit≤}
 use Rattle.rv_inst.specs.declared.instruction.Form.TheVariants.{ADD}
-use Rattle.rv_model.specs.Text.{text_base, data_base, StandsAll}
+use Rattle.rv_model.specs.Text.{text_base}
 use Rattle.rv_model.proofs.TextLemmas.{stands_from}
-use Rattle.rv_flips.specs.Cells.{One, Two, Three, Free, Has, Sure}
+use Rattle.rv_flips.specs.Cells.{One}
 use Rattle.rv_flips.specs.Assertion.{with_register}
-use Rattle.rv_flips.proofs.CellLemmas.{with_register-same}
 use Rattle.flip_words.specs.Placed.{WindowPoints, Excepted, IsPlaced, Carries}
 use Rattle.flip_words.proofs.CarryLemmas.{joined}
-use Rattle.flip_frames.specs.Views.{Stage, View, IsView, Runs, version, with_value, no_values, at_address}
-use Rattle.flip_frames.specs.Fetching.{Triple, HoldsTriple, fetch_slots, fetched}
+use Rattle.flip_frames.specs.Views.{IsView, Runs, with_value}
+use Rattle.flip_frames.specs.Fetching.{HoldsTriple}
 use Rattle.flip_frames.proofs.Fetches.{fetch_slots_carries}
 use Rattle.flip_versions.specs.Operations.{resting, defined, operation_words, IsSlot, AreSlots, HoldsVersions, Leaves, IsApart, IsOther}
 use Rattle.flip_versions.proofs.VersionLaws.{operation_runs, others_stay}

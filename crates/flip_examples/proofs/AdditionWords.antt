@@ -1,5 +1,5 @@
 -- The words of the text, one by one.
-use Rattle.std.proofs.Common.{◌≡◌, ℕ, arith}
+use Rattle.std.proofs.Common.{arith}
 use Rattle.std.specs.Prelude.{pos, negsuc}
 use Rattle.rv_inst.specs.declared.instruction.Form.TheVariants.{LUI, ADDI, ADD, BEQ, LD, SD}
 use Rattle.rv_inst.specs.Word.{Word}

@@ -1,2 +1,4 @@
 pub mod AdditionWords
 pub mod AdditionRun
+pub mod ProgramWords
+pub mod ProgramRun

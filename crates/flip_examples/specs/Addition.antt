@@ -1,5 +1,5 @@
 -- A text of 42 words: an addition in three versions, of which the last one goes to a far slot, and then the fetch of one of its operands.
-use Rattle.std.specs.Prelude.{ℕ, ◌+◌, ◌*◌, List, [], ◌∷◌, ◌++◌, Option, Some, None, length}
+use Rattle.std.specs.Prelude.{ℕ, ◌+◌, ◌*◌, List, [], ◌∷◌, ◌++◌, Some}
 use Rattle.rv_inst.specs.declared.instruction.Form.{Form}
 use Rattle.rv_inst.specs.declared.instruction.Form.TheVariants.{ADD}
 use Rattle.rv_model.specs.Text.{text_base, WordsOf}

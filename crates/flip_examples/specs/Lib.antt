@@ -1,1 +1,3 @@
 pub mod Addition
+pub mod Program
+pub mod Fetch

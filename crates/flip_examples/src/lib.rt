@@ -3,9 +3,22 @@
 #![tactic(auto)]
 
 ghost use Rattle.flip_examples.specs.Addition.{AdditionHolds};
+ghost use Rattle.flip_examples.specs.Program.{ProgramHolds};
+ghost use Rattle.flip_examples.specs.Fetch.{FetchHolds};
 
 /// States that a text of 42 words adds two values in three versions and fetches one of them, whatever flip
 /// outside its window points comes.
 pub fn an_addition_holds()
     ensures { AdditionHolds }
+{}
+
+/// States that a program of 66 words, with a constant, a copy, an operation and an end, survives every flip
+/// outside a list that has all window points of its text.
+pub fn a_program_holds()
+    ensures { ProgramHolds }
+{}
+
+/// States that three words fetch the right one of three copies in registers.
+pub fn a_fetch_holds()
+    ensures { FetchHolds }
 {}
