@@ -1,11 +1,12 @@
 //! The laws of sizes.
 
-ghost use Rattle.std.specs.Prelude.{◌≡◌, List};
-ghost use Rattle.ir_tree.specs.Shape.{TyShape, TyShapes, NamedTyShape};
+ghost use Rattle.std.specs.Prelude.{◌≡◌, List, length};
+ghost use Rattle.ir_tree.specs.Shape.{TyShape, TyShapes, ConstShape, NamedTyShape, ModuleShape};
 ghost use Rattle.ir_layout.specs.declared.sizes.Layout.{Layout};
 ghost use Rattle.ir_layout.specs.Rules.{HasLayout, HaveLayouts};
-ghost use Rattle.ir_rules.specs.Constants.{Opens};
+ghost use Rattle.ir_rules.specs.Constants.{Opens, HasConst};
 ghost use Rattle.ir_program.specs.Sizes.{layout_of, row_layouts, opened};
+ghost use Rattle.ir_program.specs.Constants.{const_cells};
 
 /// Proves that types which have layouts have those that programs count with, and open to the arrays and
 /// structures that programs step into.
@@ -16,4 +17,10 @@ pub fn sizes_are_those_of_layouts()
         HaveLayouts ts row ls → row_layouts ts row ≡ ls }
     ensures opened { (ts : List NamedTyShape) (t u : TyShape) (l : Layout) → HasLayout ts t l →
         Opens ts t u → opened ts t ≡ u }
+{}
+
+/// Proves that a constant has as many bytes as its type is large, so that a global has its type's size.
+pub fn constants_fill_their_types()
+    ensures { (m : ModuleShape) (c : ConstShape) (t : TyShape) (l : Layout) →
+        HasLayout m.types t l → HasConst m.types c t → length (const_cells m t c) ≡ l.size }
 {}

@@ -7,4 +7,4 @@
 
 mod laws;
 
-pub use laws::sizes_are_those_of_layouts;
+pub use laws::{constants_fill_their_types, sizes_are_those_of_layouts};
