@@ -1,0 +1,4 @@
+pub mod Uses
+pub mod Links
+pub mod Lists
+pub mod Kept
