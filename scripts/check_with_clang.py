@@ -37,10 +37,10 @@ def main():
                 for level in LEVELS:
                     rows.append(row_of(clang, source, level))
                     places.append(f"{title} {clang} {' '.join(level)}")
-    for place, answer in zip(places, answers(rows)):
+    for place, answer in zip(places, answers(rows, "flow.txt")):
         if answer != "ok":
             sys.exit(f"{place}: {answer}")
-    print(f"{len(rows)} texts of {len(clangs)} clangs: all proper")
+    print(f"{len(rows)} texts of {len(clangs)} clangs: all proper and within the limits")
 
 
 if __name__ == "__main__":

@@ -508,10 +508,12 @@ def modules(rng, count):
     return made
 
 
-def answers(rows):
-    """What the program answers to rows."""
+def answers(rows, file="checks.txt"):
+    """What the program answers to the rows of one of its files."""
     with tempfile.TemporaryDirectory() as folder:
-        (Path(folder) / "checks.txt").write_text("".join(row + "\n" for row in rows), encoding="utf-8")
+        for name in ("checks.txt", "flow.txt", "limits.txt"):
+            text = "".join(row + "\n" for row in rows) if name == file else ""
+            (Path(folder) / name).write_text(text, encoding="utf-8")
         done = subprocess.run([PROGRAM], cwd=folder, capture_output=True, text=True, check=False)
     lines = done.stdout.splitlines()
     if done.returncode != 0 or len(lines) != len(rows):

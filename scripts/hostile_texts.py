@@ -4,7 +4,8 @@
 usage: scripts/hostile_texts.py FOLDER          writes each text into FOLDER, and `answers`, with a line `NAME -> ANSWER` for each
        scripts/hostile_texts.py FOLDER run      runs the program of the crate `rows_checks` on each too, and prints the seconds
 
-Each text is a line of at most 4 MiB, as `compile` takes it. With `run` the texts stand as rows in files `checks.txt`.
+Each text is a line of at most 4 MiB, as `compile` takes it. With `run` each text stands as a row in the file of rows of
+the program that asks of it what is slow.
 """
 
 import subprocess
@@ -181,14 +182,75 @@ def colliding():
     yield "colliding_names", filled("define void @f(i8", names, "){ret void}"), "ok"
 
 
+# Flow: each function is one that no rule of flow speaks against, or the fault is the last or the first. There is no `main`, which is
+# asked for after the flow.
+
+
+def in_a_row():
+    """Blocks one after the other, each with a value that the next one uses, and with the first one's."""
+    blocks = [f"b{n}:%v{n}=add i8 %v{n - 1},%v0 br label %b{n + 1} " for n in range(1, 60_000)]
+    head, end = "define void @f(){b0:%v0=add i8 1,1 br label %b1 ", "b60000:%w=add i8 %v59999,%v30000 ret void}"
+    yield "row", head + "".join(blocks) + end, "no main"
+    unknown = end.replace("%v30000", "%u") + "define void @g(){ret void}"
+    side = "b60001:%u=add i8 1,1 br label %b60000 "
+    text = head.replace("br label %b1 ", "br i1 true,label %b1,label %b60001 ") + side + "".join(blocks) + unknown
+    yield "last_wrong", text, f"flow {text.index('%w=')}"
+    early = [f"b{n}:%v{n}=add i8 %v{n + 1},1 br label %b{n + 1} " for n in range(1, 60_000)]
+    text = head + "".join(early) + "b60000:%v60000=add i8 1,1 ret void}"
+    yield "all_wrong", text, f"flow {text.index('%v1=')}"
+
+
+def ladders():
+    """Two rows of blocks with rungs from one to the other, in one direction and in both."""
+    rails = [f"a{n}:br i1 %c,label %a{n + 1},label %b{n} b{n}:br label %b{n + 1} " for n in range(35_000)]
+    head, end = "define void @f(i1 %n){s:%c=add i1 %n,1 br label %a0 ", "a35000:br label %b35000 b35000:%w=add i1 %c,1 ret void}"
+    yield "ladder", head + "".join(rails) + end, "no main"
+    rails = [
+        f"a{n}:br i1 %c,label %a{n + 1},label %b{n} b{n}:br i1 %c,label %b{n + 1},label %a{n} " for n in range(30_000)
+    ]
+    end = "a30000:br label %b30000 b30000:%w=add i1 %c,1 ret void}"
+    yield "ladder_both_ways", head + "".join(rails) + end, "no main"
+
+
+def combs():
+    """Blocks that each lead to the next one and to one exit, whose phi names them all; the same by a switch."""
+    teeth = [f"b{n}:br i1 %c,label %b{n + 1},label %e " for n in range(50_000)]
+    inputs = ",".join(f"[{n % 2},%b{n}]" for n in range(50_001))
+    head, end = "define void @f(i1 %c){", f"b50000:br label %e e:%p=phi i8{inputs} %w=add i8 %p,1 ret void}}"
+    yield "comb", head + "".join(teeth) + end, "no main"
+    cases = "".join(f"i32 {n},label %e " for n in range(MANY))
+    yield "one_way", f"define void @f(i32 %n){{a:switch i32 %n,label %e[{cases}]e:%p=phi i8[1,%a] ret void}}", "no main"
+    missing = "".join(f"%p{n}=phi i8[1,%b1] " for n in range(50_000))
+    text = head + "".join(teeth[:30_000]) + f"b30000:br label %e e:{missing}ret void}}"
+    yield "phis_without_inputs", text, f"flow {text.index('%p0=')}"
+
+
+def loops():
+    """Loops inside loops, and blocks that lead to each other in both directions."""
+    begins = [f"b{n}:%v{n}=add i8 1,1 br label %b{n + 1} " for n in range(1, 30_000)]
+    ends = [f"e{n}:%w{n}=add i8 %v{n},1 br i1 %c,label %b{n},label %e{n - 1} " for n in range(29_999, 1, -1)]
+    text = "define void @f(i1 %c){s:br label %b1 " + "".join(begins) + "b30000:br label %e29999 " + "".join(ends) + "e1:ret void}"
+    yield "nested_loops", text, "no main"
+    both = [f"b{n}:br i1 %c,label %b{n + 1},label %b{n - 1} " for n in range(1, 60_000)]
+    text = "define void @f(i1 %c){s:br i1 %c,label %b0,label %b60000 b0:br label %b1 " + "".join(both) + "b60000:br label %b59999 }"
+    yield "both_ways", text, "no main"
+
+
+FLOWS = (in_a_row, ladders, combs, loops)
+
 KINDS = (
     ordinary, long_functions, calls, nested_types, opened_types, doubled_types, great_types, switches, colliding,
 )
 
 
-def run(folder, text):
-    """What the program answers to a text, and how many seconds that takes."""
-    (folder / "checks.txt").write_text(text + "\n", encoding="utf-8")
+# The files of rows of the program, with the kinds of texts that stand in each.
+FILES = {"checks.txt": KINDS, "flow.txt": FLOWS, "limits.txt": ()}
+
+
+def run(folder, file, text):
+    """What the program answers to a text in a file of rows, and how many seconds that takes."""
+    for name in FILES:
+        (folder / name).write_text(text + "\n" if name == file else "", encoding="utf-8")
     begin = time.monotonic()
     done = subprocess.run([PROGRAM], cwd=folder, capture_output=True, text=True, check=False)
     return done.stdout.removeprefix(text + " -> ").strip() or done.stderr, time.monotonic() - begin
@@ -201,13 +263,13 @@ def main():
         sys.exit(f"{PROGRAM} isn't built")
     folder, answers, wrong = Path(sys.argv[1]), [], 0
     folder.mkdir(parents=True, exist_ok=True)
-    for name, text, answer in (made for kind in KINDS for made in kind()):
+    for file, (name, text, answer) in ((file, made) for file, kinds in FILES.items() for kind in kinds for made in kind()):
         if len(text) > MOST_BYTES:
             sys.exit(f"{name} has {len(text)} bytes")
         (folder / f"{name}.ll").write_text(text, encoding="utf-8")
         answers.append(f"{name}.ll -> {answer}\n")
         if len(sys.argv) == 3:
-            found, seconds = run(folder, text)
+            found, seconds = run(folder, file, text)
             wrong += found != answer
             print(f"{seconds:8.2f} {name}: {found}" + ("" if found == answer else f", and not {answer}"), flush=True)
     (folder / "answers").write_text("".join(answers), encoding="utf-8")
