@@ -1,8 +1,8 @@
 #!/usr/bin/env python3
-"""Checks the names and types of what clang writes.
+"""Checks that what clang writes is proper and within the limits.
 
 The C programs of compare_with_llvm.py are compiled to LLVM IR by each clang from 16 on that is installed, at several levels. The
-program of `crates/rows_checks` has to find the names and types of each text proper. Where there is no clang the check is skipped.
+program of `crates/rows_checks` has to accept each text. Where there is no clang the check is skipped.
 """
 
 import shutil
