@@ -38,7 +38,7 @@ exit_survives : (status : ℕ) (input : List ℕ) → status < 256 → Survives 
 exit_survives status input h =
     let low : status % 256 ≡ status = omega arith in
     let P : ℕ → Type 0 = λ n. Survives (written_image (exit_words status) [] 0) (pairs exit_points) input [] n 8 in
-    subst P low (ending_survives (exit_words status) [] 0 input (pos status) (are_ending status h))
+    subst P low (ending_survives (exit_words status) [] 0 input (pos status) (All-nil (λ b. b < 2 ^ 8)) (are_ending status h))
 
 -- each point of the list is a window point of the words
 exit_windows : (status : ℕ) → status < 256 → AllByRecursion (λ (point : Point). IsWindowPoint (exit_words status) text_base point.pc point.reg) exit_points
