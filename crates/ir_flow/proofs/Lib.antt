@@ -1,0 +1,11 @@
+mod OneByOne
+mod Passed
+mod Comes
+mod Rows
+mod Looked
+mod Alike
+mod Placed
+mod Operands
+mod Tables
+mod Tests
+mod AtPlace

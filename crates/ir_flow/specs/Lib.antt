@@ -1,0 +1,4 @@
+pub mod Places
+pub mod Around
+pub mod Phis
+pub mod Looks
