@@ -1,3 +1,4 @@
 mod Laid
 mod Sized
 mod Modules
+mod Framed

@@ -8,7 +8,8 @@ use Rattle.ir_model.specs.Programs.{Instruction, Input, Phi, Block, Function, Pr
 use Rattle.ir_model.specs.Runs.{MeaningEnds}
 use Rattle.ir_program.specs.Constants.{global_cells}
 use Rattle.ir_program.specs.Operands.{operand_of, operands_of, action_of, result_number, block_number}
-use Rattle.ir_program.specs.Frames.{is_phi, frame_of}
+use Rattle.ir_forms.specs.Instructions.{is_phi}
+use Rattle.ir_program.specs.Frames.{frame_of}
 
 -- what a phi of a type takes
 abbrev pub input_of : Around → TyShape → PhiInShape → Input

@@ -7,4 +7,6 @@
 
 mod laws;
 
-pub use laws::{constants_fill_their_types, sizes_are_those_of_layouts};
+pub use laws::{
+    constants_fill_their_types, frames_are_those_of_limits, sizes_are_those_of_layouts,
+};
