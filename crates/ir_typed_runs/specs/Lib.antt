@@ -1,0 +1,6 @@
+pub mod Invariants
+pub mod Kinds
+pub mod TypedPrograms
+pub mod TypedStates
+pub mod OwnedBlocks
+pub mod Places
