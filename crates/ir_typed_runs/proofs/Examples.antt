@@ -1,5 +1,5 @@
--- A program that is typed and whole: `main` stores a number in a room, loads it, and returns what another function makes of it.
-use Rattle.std.specs.Prelude.{◌≡◌, ◌<◌, ℕ, zero, suc, false, List, [], ◌∷◌, length, Some, None}
+-- A program that is typed: `main` stores a number in a room, loads it, and returns what another function makes of it.
+use Rattle.std.specs.Prelude.{◌≡◌, ℕ, zero, suc, false, List, [], ◌∷◌, length, Some, None}
 use Rattle.std.specs.List.{AllByRecursion}
 use Rattle.std.proofs.Common.{arith, refl}
 use Rattle.ir_tree.specs.declared.module.Bin.TheVariants.{Add}
@@ -10,7 +10,6 @@ use Rattle.ir_model.specs.Operations.{Binary}
 use Rattle.ir_model.specs.Programs.{Operand, Local, Fixed, Compute, Alloca, Load, Store, Call, Return, Instruction, Block, Program, function_at}
 use Rattle.ir_typed_runs.specs.Kinds.{OfWidth, OfPointer, HasWidth}
 use Rattle.ir_typed_runs.specs.TypedPrograms.{FunctionKinds, kinds_in, IsTypedBlock, IsTyped}
-use Rattle.ir_typed_runs.specs.Places.{IsWholeBlock, IsWhole}
 
 abbrev plain : Flags
 plain = record { nuw = false; nsw = false; exact = false }
@@ -36,13 +35,13 @@ gives id = record { result = None; action = Return; operands = Local id ∷ [] }
 abbrev adds : Instruction
 adds = record { result = Some 1; action = Compute (Binary Add plain 32); operands = Local 0 ∷ five ∷ [] }
 
-abbrev outer : Block
+abbrev pub outer : Block
 outer = record { phis = []; body = makes ∷ keeps ∷ finds ∷ calls ∷ gives 2 ∷ [] }
 
-abbrev inner : Block
+abbrev pub inner : Block
 inner = record { phis = []; body = adds ∷ gives 1 ∷ [] }
 
-abbrev small : Program
+abbrev pub small : Program
 small = record {
   globals = [];
   functions = record { params = 0; values = 3; frame = 0; blocks = outer ∷ [] } ∷ record { params = 1; values = 2; frame = 0; blocks = inner ∷ [] } ∷ [];
@@ -108,16 +107,3 @@ small_typed = record { values = counts; widths = widths; blocks = blocks; global
     counts zero = refl
     counts (suc zero) = refl
     counts (suc (suc f)) = refl
-
-pub small_whole : IsWhole small
-small_whole = record { main = omega arith; entries = entries; blocks = wholes }
-  where
-    entries : (f : ℕ) → f < length small.functions → 0 < length (function_at small f).blocks
-    entries zero lt = omega arith
-    entries (suc zero) lt = omega arith
-    entries (suc (suc f)) lt = absurd (omega arith)
-
-    wholes : (f : ℕ) → AllByRecursion (IsWholeBlock small f) (function_at small f).blocks
-    wholes zero = (record { body = (refl, (refl, (refl, (refl, refl)))); named = (tt, (tt, (tt, (omega arith, (tt, tt))))) }, tt)
-    wholes (suc zero) = (record { body = (refl, refl); named = (tt, (tt, tt)) }, tt)
-    wholes (suc (suc f)) = tt

@@ -1,9 +1,7 @@
 pub mod Lists
 mod Numbers
 mod Computed
-mod Cells
+pub mod Cells
 mod Steps
-mod Owned
-mod Placed
-mod Examples
 pub mod Runs
+pub mod Examples

@@ -10,10 +10,11 @@ pub record FunctionKinds : Type 0 where
   pub values : List Kind
   pub result : Option Kind
 
--- those of the function of a number
+-- what stands for those of a function that isn't there
 abbrev pub no_kinds : FunctionKinds
 no_kinds = record { values = []; result = None }
 
+-- those of the function of a number
 abbrev pub kinds_in : List FunctionKinds → ℕ → FunctionKinds
 kinds_in kinds f = slice_index_or kinds f no_kinds
 

@@ -11,11 +11,10 @@ ghost use Rattle.ir_model.specs.Steps.{loaded};
 ghost use Rattle.ir_typed_runs.specs.Invariants.{IsInvariant, IsReached};
 ghost use Rattle.ir_typed_runs.specs.Kinds.{Kind, IsOfKind, kind_of, HasKinds, Answers};
 ghost use Rattle.ir_typed_runs.specs.TypedPrograms.{FunctionKinds, IsTyped};
-ghost use Rattle.ir_typed_runs.specs.OwnedBlocks.{HasOwnBlocks};
-ghost use Rattle.ir_typed_runs.specs.Places.{IsWhole, HasPlaces, HasNext};
-ghost use Rattle.ir_typed_runs.specs.TypedStates.{IsTypedState, HasTypedCells, HasFittingOperands, HasFittingInputs};
+ghost use Rattle.ir_typed_runs.specs.TypedStates.{IsTypedState, HasTypedCells, HasFittingOperands};
+ghost use Rattle.ir_typed_runs.specs.TypedStates.{HasFittingInputs};
 
-/// Proves that what an operation gives for operands of the kinds that it takes is of the kind that it gives.
+/// Proves that an operation gives a value of its kind for operands of the kinds that it takes.
 pub fn operations_keep_kinds()
     ensures { (blocks : ℕ) (operation : Operation) (ks : List Kind) (kind : Kind)
         (memory : List MemoryBlock) (vs : List Value) → HasKinds operation ks kind →
@@ -29,7 +28,7 @@ pub fn loads_keep_kinds()
         Answers blocks (kind_of access) (loaded access v memory) }
 {}
 
-/// Proves that the states of a typed program are typed at the start, and that each step keeps them so.
+/// Proves that a typed program's states are typed at the start, and that each step keeps them so.
 pub fn typed_states_stay()
     ensures { (p : Program) (kinds : List FunctionKinds) → IsTyped p kinds →
         IsInvariant p (IsTypedState p kinds) }
@@ -44,28 +43,15 @@ pub fn reached_states_are_typed()
 /// Proves that each instruction meets operands of kinds with which its action fits.
 pub fn operands_fit()
     ensures { (p : Program) (kinds : List FunctionKinds) (s : State) (a : Activation)
-        (rest : List Activation) (x : Instruction) → IsTyped p kinds → IsTypedState p kinds s →
-        s.stack ≡ a ∷ rest → instruction_at p a ≡ Some x →
+        (rest : List Activation) (x : Instruction) → IsTyped p kinds →
+        IsTypedState p kinds s → s.stack ≡ a ∷ rest → instruction_at p a ≡ Some x →
         HasFittingOperands p kinds (length s.memory) a x }
 {}
 
-/// Proves that each phi of a block takes a value of its kind from where the innermost activation stands.
+/// Proves that each phi of a block takes a value of its kind from where an activation stands.
 pub fn inputs_of_phis_fit()
     ensures { (p : Program) (kinds : List FunctionKinds) (s : State) (a : Activation)
         (rest : List Activation) (to : ℕ) → IsTyped p kinds → IsTypedState p kinds s →
-        s.stack ≡ a ∷ rest →
-        AllByRecursion (HasFittingInputs kinds (length s.memory) a) (block_in p a.function to).phis }
-{}
-
-/// Proves that in every run each block of memory is live just while it is of the start or an activation owns it, and no two own it.
-pub fn owned_blocks_stay()
-    ensures stays { (p : Program) → IsInvariant p (HasOwnBlocks p) }
-    ensures reached { (p : Program) (s : State) → IsReached p s → HasOwnBlocks p s }
-{}
-
-/// Proves that in each run of a whole program there is always a next instruction.
-pub fn places_stay()
-    ensures stays { (p : Program) → IsWhole p → IsInvariant p (HasPlaces p) }
-    ensures next { (p : Program) (s : State) → HasPlaces p s → HasNext p s }
-    ensures reached { (p : Program) (s : State) → IsWhole p → IsReached p s → HasNext p s }
+        s.stack ≡ a ∷ rest → AllByRecursion (HasFittingInputs kinds (length s.memory) a)
+        (block_in p a.function to).phis }
 {}

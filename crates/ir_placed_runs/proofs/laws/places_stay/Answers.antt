@@ -1,7 +1,7 @@
-use Rattle.ir_typed_runs.specs.Places.{HasPlaces}
-use Rattle.ir_typed_runs.proofs.Placed as placed
+use Rattle.ir_placed_runs.specs.Places.{HasPlaces}
+use Rattle.ir_placed_runs.proofs.Placed as placed
 use Rattle.ir_typed_runs.proofs.Runs.{every_state_has}
-use Rattle.ir_typed_runs.proofs.laws.places_stay.Goals as goal
+use Rattle.ir_placed_runs.proofs.laws.places_stay.Goals as goal
 
 pub returns-clause-stays : goal.returns-clause-stays
 returns-clause-stays c = placed.places_stay

@@ -13,7 +13,7 @@ use Rattle.ir_model.specs.Steps.{answered, loaded, written, stores, puts, gets, 
 use Rattle.ir_model.proofs.Stored.{common_stays}
 use Rattle.ir_typed_runs.specs.Invariants.{IsInvariant}
 use Rattle.ir_typed_runs.specs.TypedPrograms.{first_blocks}
-use Rattle.ir_typed_runs.specs.OwnedBlocks.{owned_by, Descends, AreOwned, HasOwnBlocks}
+use Rattle.ir_placed_runs.specs.OwnedBlocks.{owned_by, Descends, AreOwned, HasOwnBlocks}
 use Rattle.ir_typed_runs.proofs.Cells.{made_count, stored_count}
 
 -- members of a list with one more

@@ -12,7 +12,7 @@ use Rattle.ir_model.specs.Programs.{Case, Action, Compute, Alloca, Load, Store, 
 use Rattle.ir_model.specs.States.{Activation, State, StepResult, Continues, Ends, Undefined, value_of, instruction_at}
 use Rattle.ir_model.specs.Steps.{answered, loaded, written, stores, puts, gets, branches, branch_target, case_of, switch_target, finishes, returns, act, did, stepped, step}
 use Rattle.ir_typed_runs.specs.Invariants.{IsInvariant}
-use Rattle.ir_typed_runs.specs.Places.{is_terminator, IsBody, Names, IsWholeBlock, IsWhole, body_around, Waits, ArePlaced, HasPlaces, HasNext}
+use Rattle.ir_placed_runs.specs.Places.{is_terminator, IsBody, Names, IsWholeBlock, IsWhole, body_around, Waits, ArePlaced, HasPlaces, HasNext}
 use Rattle.ir_typed_runs.proofs.Lists.{if_holds, all_get, all_at, all_weaker}
 
 -- a body has an instruction

@@ -1,7 +1,7 @@
-use Rattle.ir_typed_runs.specs.OwnedBlocks.{HasOwnBlocks}
-use Rattle.ir_typed_runs.proofs.Owned.{owns_stays}
+use Rattle.ir_placed_runs.specs.OwnedBlocks.{HasOwnBlocks}
+use Rattle.ir_placed_runs.proofs.Owned.{owns_stays}
 use Rattle.ir_typed_runs.proofs.Runs.{every_state_has}
-use Rattle.ir_typed_runs.proofs.laws.owned_blocks_stay.Goals as goal
+use Rattle.ir_placed_runs.proofs.laws.owned_blocks_stay.Goals as goal
 
 pub returns-clause-stays : goal.returns-clause-stays
 returns-clause-stays c = owns_stays

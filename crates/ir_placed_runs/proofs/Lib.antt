@@ -1,0 +1,3 @@
+mod Owned
+mod Placed
+mod Examples

@@ -1,0 +1,2 @@
+pub mod OwnedBlocks
+pub mod Places
