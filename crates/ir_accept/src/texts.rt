@@ -29,6 +29,7 @@ pub enum Refusal {
 ///
 /// The first of these that holds, and each exactly where it holds: those of [`read_source`], and then those of
 /// [`check`]. Want of memory may take the place of any answer.
+#[tactic(auto, using(crate::proofs::Accepted::read_form, crate::proofs::Accepted::accepted_as, crate::proofs::Accepted::refused_as))]
 pub fn check_source(alloc: Global, text: &[u8]) -> Result<Checked, Refusal>
     requires short { length text.now < 2 ^ 31 }
     ensures { IsCheckedText text.now result }

@@ -1,5 +1,6 @@
 -- What the answers to a check of a module say.
-use Rattle.std.specs.Prelude.{◌≡◌, Some, Result, Ok, Err}
+use Rattle.std.specs.Prelude.{◌≡◌, true, Some}
+use Rattle.ir_tree.specs.Known.{module_known}
 use Rattle.ir_tree.specs.ShapeOf.{module_shape}
 use Rattle.ir_tree.specs.declared.parsed.Parsed.{Parsed}
 use Rattle.ir_rules.specs.NameRules.{HasNames}
@@ -8,6 +9,9 @@ use Rattle.ir_rules.specs.Faults.{NameFault, TypeFault, IsFirst}
 use Rattle.ir_proper.specs.FlowRules.{HasFlow, FlowFault}
 use Rattle.ir_proper.specs.Limits.{most_of, IsWithin, IsFirstPassed}
 use Rattle.ir_proper.specs.Proper.{HasMain, IsProper}
+use Rattle.ir_names.specs.Scopes.{AreScopesOf}
+use Rattle.ir_forms.specs.Modules.{HasForm}
+use Rattle.ir_check.specs.declared.checked.Checked.{Checked}
 use Rattle.ir_check.specs.declared.error.CheckError.{CheckError}
 use Rattle.ir_check.specs.declared.error.CheckError.TheVariants.{Name, Typing, Flow, NoMain, Limit, OutOfMemory}
 
@@ -23,3 +27,12 @@ IsRefused p NoMain =
 IsRefused p (Limit which found most) =
     IsProper (module_shape p.«module») × IsFirstPassed (module_shape p.«module») which found × (most ≡ most_of which)
 IsRefused p OutOfMemory = Unit {0}
+
+-- what is known of a checked module: its names are known, it has the form that the grammar gives, it is proper and within the limits, and the
+-- tables say what its names stand for
+pub record IsChecked (c : Checked) : Type 0 where
+  pub known : module_known c.parsed.«module» ≡ true
+  pub form : HasForm (module_shape c.parsed.«module»)
+  pub proper : IsProper (module_shape c.parsed.«module»)
+  pub within : IsWithin (module_shape c.parsed.«module»)
+  pub tables : AreScopesOf c.parsed.«module» c.scopes

@@ -1,29 +1,21 @@
 //! A module that is proper and within the limits.
 
-ghost use Rattle.std.specs.Prelude.{◌≡◌, true};
-ghost use Rattle.ir_tree.specs.Known.{module_known};
-ghost use Rattle.ir_tree.specs.ShapeOf.{module_shape};
-ghost use Rattle.ir_names.specs.Scopes.{AreScopesOf};
-ghost use Rattle.ir_forms.specs.Modules.{HasForm};
-ghost use Rattle.ir_proper.specs.Proper.{IsProper};
-ghost use Rattle.ir_proper.specs.Limits.{IsWithin};
+ghost use Rattle.std.specs.Prelude.{◌≡◌};
 
 use ir_names::Scopes;
 use ir_tree::module::Module;
 use ir_tree::parsed::{Parsed, Spots};
 
-/// A module that was read and is proper and within the limits, with the tables of its names.
+/// A module that was read and checked, with the tables of its names.
+///
+/// What [`check`](crate::check) answers is proper and within the limits: the record `IsChecked` says all that is known
+/// of it, and what takes a checked module asks for that record.
 #[derive(Drop)]
 pub struct Checked {
     /// The module, with the places of its parts in the text.
     pub parsed: Parsed,
     /// What its names stand for.
     pub scopes: Scopes,
-    ghost known: { module_known parsed.«module» ≡ true },
-    ghost formed: { HasForm (module_shape parsed.«module») },
-    ghost proper: { IsProper (module_shape parsed.«module») },
-    ghost within: { IsWithin (module_shape parsed.«module») },
-    ghost tables: { AreScopesOf parsed.«module» scopes },
 }
 
 impl Checked {

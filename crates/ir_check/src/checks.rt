@@ -10,7 +10,7 @@ ghost use Rattle.ir_proper.specs.FlowRules.{HasFlow};
 ghost use Rattle.ir_proper.specs.Proper.{IsProper};
 ghost use Rattle.ir_proper.specs.Limits.{IsWithin};
 ghost use Rattle.ir_forms.specs.Modules.{HasForm};
-ghost use Rattle.ir_check.specs.Answers.{IsRefused};
+ghost use Rattle.ir_check.specs.Answers.{IsRefused, IsChecked};
 
 use crate::checked::Checked;
 use crate::error::{CheckError, refusal_of_types};
@@ -43,6 +43,7 @@ fn check_rules(alloc: Global, p: &Parsed, scopes: &Scopes) -> Result<(), CheckEr
 }
 
 /// Checks the rules of a module, and that it defines `main`.
+#[tactic(auto, using(crate::proofs::Mains::proper_with_main, crate::proofs::Mains::refused_without_main))]
 fn check_proper(alloc: Global, p: &Parsed, scopes: &Scopes) -> Result<(), CheckError>
     requires known { module_known p.now.«module» ≡ true }
     requires scopes { AreScopesOf p.now.«module» scopes.now }
@@ -84,9 +85,11 @@ fn check_limits(alloc: Global, p: &Parsed) -> Result<(), CheckError>
 ///
 /// The first kind of rule that fails, in the order of [`CheckError`], with the first offset or the first count at
 /// which it does; `OutOfMemory`. The module is dropped.
+#[tactic(auto, using(crate::proofs::Mains::all_known))]
 pub fn check(alloc: Global, p: Parsed) -> Result<Checked, CheckError>
     requires known { module_known p.«module» ≡ true }
     requires form { HasForm (module_shape p.«module») }
+    ensures checked { IfOk result IsChecked }
     ensures same { IfOk result (λ checked. checked.parsed ≡ p) }
     ensures refused { IfErr result (IsRefused p) }
 {

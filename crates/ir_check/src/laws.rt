@@ -1,6 +1,6 @@
 //! The laws of checked modules.
 
-ghost use Rattle.std.specs.Prelude.{◌≡◌, ◌≢◌, ⊥};
+ghost use Rattle.std.specs.Prelude.{◌≡◌, ◌≢◌};
 ghost use Rattle.ir_tree.specs.ShapeOf.{module_shape};
 ghost use Rattle.ir_tree.specs.declared.parsed.Parsed.{Parsed};
 ghost use Rattle.ir_proper.specs.Proper.{IsProper};

@@ -9,3 +9,4 @@ mod Operands
 mod Tables
 mod Tests
 mod AtPlace
+mod Everywhere

@@ -85,7 +85,7 @@ pub record InRows (p : Parsed) (k b i at : ℕ) : Type 0 where
   pub has_row : slice_get rows.items b ≡ Some row
   pub has_spot : slice_get row.items i ≡ Some at
 
-then_of : {A B : Type 0} (g : A → Option B) (o : Option A) (y : B) → option_and_then g o ≡ Some y → (a : A) × (o ≡ Some a) × (g a ≡ Some y)
+pub then_of : {A B : Type 0} (g : A → Option B) (o : Option A) (y : B) → option_and_then g o ≡ Some y → (a : A) × (o ≡ Some a) × (g a ≡ Some y)
 then_of g None y e = cc
 then_of g (Some a) y e = (a, refl, e)
 

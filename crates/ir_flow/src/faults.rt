@@ -1,10 +1,11 @@
 //! The first instruction at which the flow of a module isn't proper.
 
-ghost use Rattle.std.specs.Prelude.{◌≡◌, ◌↔◌, ◌+◌, ◌<◌, true, length, IsTrue, IfOk};
+ghost use Rattle.std.specs.Prelude.{◌≡◌, ◌↔◌, ◌+◌, ◌<◌, true, length, IsTrue, IfOk, IfNone};
 ghost use Rattle.ir_tree.specs.Known.{module_known};
+ghost use Rattle.ir_tree.specs.ShapeOf.{module_shape};
 ghost use Rattle.ir_names.specs.Scopes.{AreScopesOf};
 ghost use Rattle.ir_rules.specs.Faults.{IsFirst};
-ghost use Rattle.ir_proper.specs.FlowRules.{FlowFault};
+ghost use Rattle.ir_proper.specs.FlowRules.{HasFlow, FlowFault};
 ghost use Rattle.ir_flow.specs.Around.{predecessors_in, IsAround, IsAroundIn};
 ghost use Rattle.ir_flow.specs.Places.{ArePlaces};
 ghost use Rattle.ir_flow.specs.Looks.{IsFoundBy, IsInstOf, AreBefore, HasLooked};
@@ -126,7 +127,8 @@ pub fn first_flow_fault(
 ) -> Result<Option<usize>, AllocError>
     requires known { module_known p.now.«module» ≡ true }
     requires scopes { AreScopesOf p.now.«module» scopes.now }
-    ensures { IfOk result (IsFirst (FlowFault p.now)) }
+    ensures first { IfOk result (IsFirst (FlowFault p.now)) }
+    ensures none { IfOk result (λ found. IfNone found (HasFlow (module_shape p.now.«module»))) }
 {
     let mut found = None;
     for at in 0..p.module.functions.len() {

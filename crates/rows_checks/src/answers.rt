@@ -1,11 +1,18 @@
 //! What is answered to a text.
 
+ghost use Rattle.std.specs.Prelude.{◌≡◌, ◌<◌, true, length};
+ghost use Rattle.ir_tree.specs.Known.{module_known};
+ghost use Rattle.ir_tree.specs.ShapeOf.{module_shape};
+ghost use Rattle.ir_rules.specs.TypeRules.{HasTypes};
+ghost use Rattle.ir_check.specs.Answers.{IsChecked};
+
 use crate::refusals::{check_refusal, source_refusal, type_refusal};
 use anyhow::{Result, bail};
 use ir_accept::{Refusal, check_source};
 use ir_check::{Checked, frame, weight};
 use ir_limits::functions_have_frames;
 use ir_source::read_source;
+use ir_tree::module::Module;
 use ir_types::check_types;
 use std::alloc::Global;
 
@@ -58,15 +65,26 @@ pub fn limits_of(alloc: Global, text: &str) -> Result<String> {
     }
 }
 
-/// Writes the weight of a module and the frame of each of its functions.
-fn sizes_of(alloc: Global, checked: &Checked) -> Result<String> {
-    let m = checked.module();
-    // Each function of a proper module has a frame.
+/// Returns the frame of the function of a number of a module whose types are proper.
+fn frame_at(m: &Module, at: usize) -> u64
+    requires known { module_known m.now ≡ true }
+    requires types { HasTypes (module_shape m.now) }
+    requires at { at < length m.now.functions.items }
+{
+    // Each function of such a module has a frame.
     functions_have_frames();
+    frame(m, &m.functions[at])
+}
+
+/// Writes the weight of a module and the frame of each of its functions.
+fn sizes_of(alloc: Global, checked: &Checked) -> Result<String>
+    requires { IsChecked checked.now }
+{
+    let m = &checked.parsed.module;
     let weight = weight(m);
     let mut sizes = format!(in alloc; "ok weight={weight} frames=")?;
-    for (at, f) in m.functions.iter().enumerate() {
-        let frame = frame(m, f);
+    for at in 0..m.functions.len() {
+        let frame = frame_at(m, at);
         let comma = if at == 0 { "" } else { "," };
         let piece = format!(in alloc; "{comma}{frame}")?;
         sizes.push_str(piece.as_str())?;

@@ -2,6 +2,7 @@ use Rattle.std.proofs.Common.{length, refl, arith}
 use Rattle.std.proofs.lemmas.Option.{slice_get_read}
 use Rattle.ir_flow.proofs.AtPlace.{function_is_known}
 use Rattle.ir_flow.proofs.Looked.{first_found}
+use Rattle.ir_flow.proofs.Everywhere.{none_found}
 use Rattle.ir_flow.proofs.faults.first_flow_fault.Goals as goal
 
 pub look_at_function-requires-clause-around : goal.look_at_function-requires-clause-around
@@ -29,5 +30,8 @@ look_at_function-requires-clause-here c =
           c.index-function.ensures;
     }
 
-pub returns : goal.returns
-returns c = first_found c.args.p.now c.loop-at.at c.loop-at.found (omega (arith, c.len-at-end.ensures)) c.loop-at.invariant
+pub returns-clause-first : goal.returns-clause-first
+returns-clause-first c = first_found c.args.p.now c.loop-at.at c.loop-at.found (omega (arith, c.len-at-end.ensures)) c.loop-at.invariant
+
+pub returns-clause-none : goal.returns-clause-none
+returns-clause-none c = none_found c.args.p.now c.loop-at.at c.loop-at.found (omega (arith, c.len-at-end.ensures)) c.loop-at.invariant
