@@ -30,7 +30,7 @@ unfolding with_value
 two_values o1 o2 q = two_tests (q == 6) (q == 29) (q == 28) (q == 5) o1 o2 (λ e. grind (arith, nat_tests)) (λ e. grind (arith, nat_tests))
 
 -- after a store the turn is the next version's
-store_turns : {words : List ℕ} {code : List Form} {v : View} (g : Stage) (t t' : Tag) (d : ℕ) (file : ℕ → Option ℕ) (o : Option ℕ) → IsVersion t' → IsSlot g d → file 5 ≡ o →
+pub store_turns : {words : List ℕ} {code : List Form} {v : View} (g : Stage) (t t' : Tag) (d : ℕ) (file : ℕ → Option ℕ) (o : Option ℕ) → IsVersion t' → IsSlot g d → file 5 ≡ o →
     Runs words code v (record { stage = g; tag = t; file = file }) → Runs words (code ++ any_store 5 d) v (resting (stored g d t o) t')
 store_turns {words = words} {code = code} {v = v} g t t' d file o turn slot is one =
     let w : View = record { stage = g; tag = t; file = file } in
