@@ -39,7 +39,7 @@ framed_turn g t p is =
     }
 
 -- a source gives a version between sequences
-abbrev GivesTurn : Stage → Source → Tag → Option ℕ → Type 0
+abbrev pub GivesTurn : Stage → Source → Tag → Option ℕ → Type 0
 GivesTurn g s t o = Gives (at_address (resting g One) 0) g.base s t o
 
 gives_turn : (g : Stage) (t : Tag) (p : ℕ) (s : Source) (o : Option ℕ) → GivesTurn g s t o → Gives (at_address (resting g t) p) g.base s t o
@@ -91,7 +91,7 @@ version_runs words g t t' s n o turn turn' gives slot =
     (runs_less t' no_values turn' (λ q. says_free (version t ((far_view v).file q))) (any_store_runs words v 5 n refl (omega arith) (omega arith) slot.small slot.within)))
 
 -- a slot in reach stays in reach
-slot_stored : (g : Stage) (d : ℕ) (t : Tag) (o : Option ℕ) (n : ℕ) → IsSlot g n → IsSlot (stored g d t o) n
+pub slot_stored : (g : Stage) (d : ℕ) (t : Tag) (o : Option ℕ) (n : ℕ) → IsSlot g n → IsSlot (stored g d t o) n
 slot_stored g d t o n s = record { within = s.within; small = s.small }
 
 -- what is read from elsewhere stays
@@ -99,7 +99,7 @@ same_place : (g : Stage) (d : ℕ) (t : Tag) (o : Option ℕ) (q : ℕ) → view
 unfolding view_cell
 same_place g d t o q = refl
 
-gives_stored : (g : Stage) (d : ℕ) (t u : Tag) (o x : Option ℕ) (s : Source) → GivesTurn g s t x → IsElsewhere d s → GivesTurn (stored g d u o) s t x
+pub gives_stored : (g : Stage) (d : ℕ) (t u : Tag) (o x : Option ℕ) (s : Source) → GivesTurn g s t x → IsElsewhere d s → GivesTurn (stored g d u o) s t x
 gives_stored g d t u o x (InSlot n) gives other =
     let apart : g.base + n ≢ g.base + d = omega (arith, other) in
     (record { within = gives.0.within; small = gives.0.small }, with_register-other g.slots (g.base + d) (g.base + n) (version u o) apart ∙ gives.1)

@@ -56,15 +56,15 @@ low_bits from to x n le is =
     ∙ mul-add-mod_self_right (x / 2 ^ from * 2 ^ (from - to)) (2 ^ to) n
 
 cut_word : (from to n : ℕ) → Width from → Width to → to < from → n < 2 ^ from
-    → Leaves (convert_words Trunc from to) (Some (extended from n)) (Some 0) (Some (extended to (n % 2 ^ to)))
+    → Leaves (convert_words Trunc from to) (Some (extended from n)) None (Some (extended to (n % 2 ^ to)))
 unfolding with_value
 cut_word from to n is it less lt = elim (eqb_tells to 32) [
   | inl e ↦
-      ap (λ (short : Bool). effect_of (if short then rv.ADDIW 5 5 (pos 0) ∷ [] else narrowed to) (two_in (Some X) (Some 0)) 5) e.0
+      ap (λ (short : Bool). effect_of (if short then rv.ADDIW 5 5 (pos 0) ∷ [] else narrowed to) (two_in (Some X) None) 5) e.0
       ∙ ap Some (ap word32 (whole X below_word) ∙ machine e.1 ∙ ap (extended to) low)
   | inr e ↦
-      ap (λ (short : Bool). effect_of (if short then rv.ADDIW 5 5 (pos 0) ∷ [] else narrowed to) (two_in (Some X) (Some 0)) 5) e.0
-      ∙ narrowed_effect to (two_in (Some X) (Some 0)) X it below_word refl ∙ ap (λ (m : ℕ). Some (extended to m)) low
+      ap (λ (short : Bool). effect_of (if short then rv.ADDIW 5 5 (pos 0) ∷ [] else narrowed to) (two_in (Some X) None) 5) e.0
+      ∙ narrowed_effect to (two_in (Some X) None) X it below_word refl ∙ ap (λ (m : ℕ). Some (extended to m)) low
 ]
   where
     X : ℕ
@@ -83,7 +83,7 @@ cut_word from to n is it less lt = elim (eqb_tells to 32) [
     machine e = subst (λ (v : ℕ). word32 X ≡ extended v (X % 2 ^ v)) (sym e) (as_machine 32 (X % 2 ^ 32) (subst Width e it) (mod-lt X (omega arith)))
 
 pub convert_leaves : (conversion : Conv) (from to n : ℕ) → Width from → Width to → Converts conversion from to → n < 2 ^ from
-    → Leaves (convert_words conversion from to) (Some (extended from n)) (Some 0) (Some (extended to (converted conversion from to n)))
+    → Leaves (convert_words conversion from to) (Some (extended from n)) None (Some (extended to (converted conversion from to n)))
 unfolding with_value
 convert_leaves Zext from to n is it leads lt = ap Some (zero_word from to n is it leads lt)
 convert_leaves Sext from to n is it leads lt = ap Some (sign_word from to n is it leads lt)

@@ -1,5 +1,5 @@
 -- What it is for these words to compute their operations.
-use Rattle.std.specs.Prelude.{◌≡◌, ◌≤◌, ◌<◌, ◌^◌, ℕ, List, [], IsTrue, Some}
+use Rattle.std.specs.Prelude.{◌≡◌, ◌≤◌, ◌<◌, ◌^◌, ℕ, List, [], IsTrue, Some, None}
 use Rattle.std.specs.List.{list_all}
 use Rattle.ir_tree.specs.declared.module.Bin.{Bin}
 use Rattle.ir_tree.specs.declared.module.Flags.{Flags}
@@ -29,7 +29,7 @@ ComparisonWordsCompute = (predicate : Pred) (width a b v : ℕ) → 1 ≤ width 
 -- and those of a conversion the same number at its other width
 abbrev pub ConversionWordsCompute : Type 0
 ConversionWordsCompute = (conversion : Conv) (from to n : ℕ) → 1 ≤ from → from ≤ 64 → 1 ≤ to → to ≤ 64 → Converts conversion from to → n < 2 ^ from
-    → Leaves (convert_words conversion from to) (Some (extended from n)) (Some 0) (Some (extended to (converted conversion from to n)))
+    → Leaves (convert_words conversion from to) (Some (extended from n)) None (Some (extended to (converted conversion from to n)))
 
 -- all of them compute in scratch registers alone
 pub record WordsArePure : Type 0 where
