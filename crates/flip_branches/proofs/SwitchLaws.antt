@@ -16,13 +16,14 @@ use Rattle.flip_words.proofs.CarryLemmas.{placed_front, placed_back, joined, car
 use Rattle.flip_words.proofs.LessLemmas.{says_again, knows_same, knows_regs, written_says, written_less}
 use Rattle.flip_words.proofs.ComputeLaws.{compute_carries}
 use Rattle.flip_frames.specs.Views.{Stage, View, IsView, IsVersion, version, view_cell, no_values, at_address}
-use Rattle.flip_frames.proofs.ViewLemmas.{view_cell-zero, sures_view}
+use Rattle.flip_frames.proofs.RunLaws.{version_uncoded}
+use Rattle.flip_frames.proofs.ViewLemmas.{view_cell-zero, sures_view, not_sure_version}
 use Rattle.flip_versions.specs.Operations.{resting}
 use Rattle.flip_guards.specs.Guards.{KeptRegister, Kept, over, guard_at, guarded}
 use Rattle.flip_guards.specs.Sources.{part_words}
 use Rattle.flip_guards.specs.Fetching.{Operand, IsGiven, bring_three}
 use Rattle.flip_guards.proofs.Lines.{forgets, sures_over}
-use Rattle.flip_guards.proofs.SourceLaws.{making, parts_carry, version_unsure, version_uncoded}
+use Rattle.flip_guards.proofs.SourceLaws.{making, parts_carry}
 use Rattle.flip_guards.proofs.FetchLaws.{free_scratch, three_kept, stage_brings, keeping_six, keeping_seven}
 use Rattle.flip_jumps.specs.Jumps.{target}
 use Rattle.flip_jumps.specs.Places.{Goes}
@@ -62,8 +63,8 @@ taking_carries words c tag d w n (Made parts) is x0 sures free holds ne nonzero 
     let P : Option ℕ → Type 0 = λ o. Carries words (Excepted WindowPoints words) (part_words 28 parts) (making c 28 tag None c.pc) (making c 28 tag o (c.pc + 4 * length (part_words 28 parts))) in
     let front = subst P takes
     (parts_carry words L c 28 c.pc tag parts None x0 n28 (version_uncoded tag is)
-    (λ q x. covered (Excepted WindowPoints words) (making c 28 tag x q) [] (sures_other c.regs 28 (version tag x) [] (version_unsure tag x is) sures) tt)) in
-    let s1 = sures_other c.regs 28 (Has tag n) [] (version_unsure tag (Some n) is) sures in
+    (λ q x. covered (Excepted WindowPoints words) (making c 28 tag x q) [] (sures_other c.regs 28 (version tag x) [] (not_sure_version tag x is) sures) tt)) in
+    let s1 = sures_other c.regs 28 (Has tag n) [] (not_sure_version tag (Some n) is) sures in
     let own : c1.regs d ≡ Has tag w = with_register-other c.regs 28 d (Has tag n) ne ∙ holds in
     let made_there : c1.regs 28 ≡ Has tag n = with_register-same c.regs 28 (Has tag n) in
     let last = compute_carries words L c1 (SUB d d 28) tag w n (inl own, inl made_there) (version_uncoded tag is) nonzero (covered L c1 [] s1 tt) in
@@ -124,8 +125,8 @@ three_carries words g v n p t is takes =
     let c2 = after_write c1 6 (Has Two d) (p + 4 * length (taking_words 7 t) + 4 * length (taking_words 6 t)) in
     let calm = sures_view (resting g One) is in
     let s0 : Sures c0.regs [] = sures_over (three_kept 5 6 7 (Some v) []) regs calm in
-    let s1 : Sures c1.regs [] = sures_other c0.regs 7 (Has Three d) [] (version_unsure Three (Some d) tt) s0 in
-    let s2 : Sures c2.regs [] = sures_other c1.regs 6 (Has Two d) [] (version_unsure Two (Some d) tt) s1 in
+    let s1 : Sures c1.regs [] = sures_other c0.regs 7 (Has Three d) [] (not_sure_version Three (Some d) tt) s0 in
+    let s2 : Sures c2.regs [] = sures_other c1.regs 6 (Has Two d) [] (not_sure_version Two (Some d) tt) s1 in
     let z0 : c0.regs 0 ≡ Has Sure 0 = view_cell-zero g One no_values in
     let z1 : c1.regs 0 ≡ Has Sure 0 = with_register-other c0.regs 7 0 (Has Three d) (omega arith) ∙ z0 in
     let z2 : c2.regs 0 ≡ Has Sure 0 = with_register-other c1.regs 6 0 (Has Two d) (omega arith) ∙ z1 in

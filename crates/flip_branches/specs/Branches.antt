@@ -14,6 +14,7 @@ use Rattle.flip_jumps.specs.Places.{Goes}
 abbrev pub test_words : Operand → ℤ → List Form
 test_words x offset = fetch_operand x ++ BNE 5 0 offset ∷ []
 
+-- where a test at p on the value v goes on
 abbrev pub test_target : ℕ → Operand → ℤ → ℕ → ℕ
 test_target p x offset v = if v == 0 then p + 4 * length (test_words x offset) else target (p + 4 * length (fetch_operand x)) offset
 
@@ -26,10 +27,12 @@ TestsTurn = (words : List ℕ) (g : Stage) (x : Operand) (v p : ℕ) (offset : �
 abbrev pub branch_words : Operand → ℤ → ℤ → List Form
 branch_words x zero other = test_words x (pos 8) ++ JAL 0 zero ∷ JAL 0 other ∷ []
 
+-- where a branch at p on the value v goes on
 abbrev pub branch_target : ℕ → Operand → ℤ → ℤ → ℕ → ℕ
 branch_target p x zero other v =
     if v == 0 then target (p + 4 * length (test_words x (pos 8))) zero else target (p + 4 * length (test_words x (pos 8)) + 4) other
 
+-- of any value, to any two places
 abbrev pub BranchesTurn : Type 0
 BranchesTurn = (words : List ℕ) (g : Stage) (x : Operand) (v p : ℕ) (zero other : ℤ) → IsGiven g x (Some v)
     → IsPlaced words p (branch_words x zero other)
@@ -39,5 +42,6 @@ BranchesTurn = (words : List ℕ) (g : Stage) (x : Operand) (v p : ℕ) (zero ot
 abbrev pub unreachable_words : List Form
 unreachable_words = JAL 0 (pos 0) ∷ []
 
+-- a run that comes there stays there
 abbrev pub UnreachableStays : Type 0
 UnreachableStays = (words : List ℕ) (v : View) (p : ℕ) → IsPlaced words p unreachable_words → Goes words v p 1 v p

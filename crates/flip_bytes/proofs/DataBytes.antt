@@ -69,7 +69,7 @@ byte-outside o q place xs fits (inr above) =
     ∙ ap (λ i. get_or place i 0) (omega arith)
 
 -- the bytes of a value
-low_byte : (i n x j : ℕ) → j < n → get_or (bytes_low_first i n x) j 0 ≡ byte_at (i + j) x
+pub low_byte : (i n x j : ℕ) → j < n → get_or (bytes_low_first i n x) j 0 ≡ byte_at (i + j) x
 low_byte i zero x j h = absurd (omega arith)
 low_byte i (suc n) x zero h = let same : i ≡ i + 0 = omega arith in ap (λ k. byte_at k x) same
 low_byte i (suc n) x (suc j) h = let same : suc i + j ≡ i + suc j = omega arith in low_byte (suc i) n x j (omega arith) ∙ ap (λ k. byte_at k x) same

@@ -1,5 +1,5 @@
 -- The three copies of the stack pointer are moved, one after another.
-use Rattle.std.proofs.Common.{◌≡◌, ◌≢◌, ℕ, ◌+◌, ◌*◌, ◌<◌, ◌≤◌, ◌^◌, ◌==◌, inl, Bool, true, false, cond, List, [], ◌∷◌, ◌++◌, length, refl, sym, ◌∙◌, ap, subst, arith, length-append}
+use Rattle.std.proofs.Common.{◌≡◌, ◌≢◌, ℕ, ◌+◌, ◌*◌, ◌<◌, ◌≤◌, ◌^◌, ◌==◌, inl, Bool, true, false, cond, List, [], ◌∷◌, ◌++◌, length, Some, refl, sym, ◌∙◌, ap, subst, arith, length-append}
 use Rattle.std.specs.Prelude.{ℤ, pos, negsuc, ◌-ℤ◌}
 use Rattle.std.proofs.lemmas.Bool.Decides.{nat_tests}
 use Rattle.std.proofs.lemmas.Int.{ints}
@@ -9,7 +9,6 @@ use Rattle.rv_model.specs.State.{plus64}
 use Rattle.rv_model.specs.Operations.{bits64, upper_value, minus64}
 use Rattle.rv_flips.specs.Cells.{Tag, Sure, One, Two, Three, Cell, Free, Has, SaysLess}
 use Rattle.rv_flips.specs.Assertion.{Assertion, with_register, after_write}
-use Rattle.rv_flips.specs.Computing.{IsUncoded}
 use Rattle.rv_flips.specs.Known.{Sures}
 use Rattle.rv_flips.proofs.CellLemmas.{with_register-same, with_register-other, says_same, says_free}
 use Rattle.rv_flips.proofs.KnownRegisters.{covered, sures_other}
@@ -18,26 +17,13 @@ use Rattle.flip_words.specs.Words.{slot_address}
 use Rattle.flip_words.proofs.CarryLemmas.{joined, carries_less}
 use Rattle.flip_words.proofs.LessLemmas.{says_again, knows_same, knows_regs, written_says, written_less}
 use Rattle.flip_words.proofs.ComputeLaws.{compute_carries, upper_carries}
-use Rattle.flip_frames.specs.Views.{Stage, IsView, Runs, view_cell, at_address, no_values}
+use Rattle.flip_frames.specs.Views.{Stage, IsView, IsVersion, Runs, view_cell, at_address, no_values}
 use Rattle.flip_frames.specs.Slots.{far_high, far_low, is_near}
-use Rattle.flip_frames.proofs.ViewLemmas.{view_cell-two, view_cell-three, view_cell-four, sures_view}
+use Rattle.flip_frames.proofs.RunLaws.{version_uncoded}
+use Rattle.flip_frames.proofs.ViewLemmas.{view_cell-two, view_cell-three, view_cell-four, sures_view, not_sure_version}
 use Rattle.flip_frames.proofs.AnySlots.{far_offset}
 use Rattle.flip_versions.specs.Operations.{resting}
 use Rattle.flip_calls.specs.Frames.{size_words, copy_down, copy_up, frame_down, frame_up, based_at}
-
--- a tag of which no register is right for sure, and that isn't a code word's
-pub record IsCopyTag (t : Tag) : Type 0 where
-  pub uncoded : IsUncoded t
-  pub unsure : (v w : ℕ) → Has t v ≡ Has Sure w → ⊥
-
-one_tag : IsCopyTag One
-one_tag = record { uncoded = tt; unsure = λ v w e. cc }
-
-two_tag : IsCopyTag Two
-two_tag = record { uncoded = tt; unsure = λ v w e. cc }
-
-three_tag : IsCopyTag Three
-three_tag = record { uncoded = tt; unsure = λ v w e. cc }
 
 free_unsure : (w : ℕ) → Free ≡ Has Sure w → ⊥
 free_unsure w e = cc
@@ -60,11 +46,11 @@ without_five regs r = by_place (r == 5) refl
         rw (with_register-other regs 5 r Free other) (says_again (regs r))
 
 -- a small constant, added or taken away by the word itself
-near_carries : (words : List ℕ) (c : Assertion) (t : Tag) (d a b : ℕ) (imm : ℤ) → IsCopyTag t → c.regs d ≡ Has t a → plus64 a (bits64 imm) ≡ b → 0 < d → Sures c.regs [] →
+near_carries : (words : List ℕ) (c : Assertion) (t : Tag) (d a b : ℕ) (imm : ℤ) → IsVersion t → c.regs d ≡ Has t a → plus64 a (bits64 imm) ≡ b → 0 < d → Sures c.regs [] →
     Carries words (Excepted WindowPoints words) (ADDI d d imm ∷ []) c (moved c d t b (c.pc + 4))
 near_carries words c t d a b imm tag holds value nonzero sures =
     let P : ℕ → Type 0 = λ x. Carries words (Excepted WindowPoints words) (ADDI d d imm ∷ []) c (after_write c d (Has t x) (c.pc + 4)) in
-    let word = subst P value (compute_carries words (Excepted WindowPoints words) c (ADDI d d imm) t a (bits64 imm) (inl holds, refl) tag.uncoded nonzero (covered (Excepted WindowPoints words) c [] sures tt)) in
+    let word = subst P value (compute_carries words (Excepted WindowPoints words) c (ADDI d d imm) t a (bits64 imm) (inl holds, refl) (version_uncoded t tag) nonzero (covered (Excepted WindowPoints words) c [] sures tt)) in
     carries_less (knows_same c) word
     (knows_regs c (c.pc + 4) (c.pc + 4) (with_register c.regs d (Has t b)) (with_register (with_register c.regs 5 Free) d (Has t b)) refl
     (written_says c.regs (with_register c.regs 5 Free) d (Has t b) (Has t b) (says_again (Has t b)) (λ r ne. without_five c.regs r)))
@@ -74,21 +60,21 @@ abbrev sized : Assertion → Tag → ℕ → Assertion
 sized c t n =
     after_write (after_write c 5 (Has t (upper_value (far_high n))) (c.pc + 4)) 5 (Has t (8 * n)) (c.pc + 4 + 4)
 
-size_carries : (words : List ℕ) (c : Assertion) (t : Tag) (n : ℕ) → IsCopyTag t → n < 0x800_0000 → Sures c.regs [] → Carries words (Excepted WindowPoints words) (size_words n) c (sized c t n)
+size_carries : (words : List ℕ) (c : Assertion) (t : Tag) (n : ℕ) → IsVersion t → n < 0x800_0000 → Sures c.regs [] → Carries words (Excepted WindowPoints words) (size_words n) c (sized c t n)
 size_carries words c t n tag small sures =
     let u = upper_value (far_high n) in
     let c1 = after_write c 5 (Has t (upper_value (far_high n))) (c.pc + 4) in
     let nonzero : 0 < 5 = omega arith in
-    let s1 = sures_other c.regs 5 (Has t u) [] (tag.unsure u) sures in
+    let s1 = sures_other c.regs 5 (Has t u) [] (not_sure_version t (Some u) tag) sures in
     let own : c1.regs 5 ≡ Has t (upper_value (far_high n)) = with_register-same c.regs 5 (Has t (upper_value (far_high n))) in
     let P : ℕ → Type 0 = λ x. Carries words (Excepted WindowPoints words) (ADDI 5 5 (far_low n) ∷ []) c1 (after_write c1 5 (Has t x) (c.pc + 4 + 4)) in
     joined (upper_carries words (Excepted WindowPoints words) c 5 (far_high n) t nonzero (covered (Excepted WindowPoints words) c [] sures tt))
-    (subst P (far_offset n small) (compute_carries words (Excepted WindowPoints words) c1 (ADDI 5 5 (far_low n)) t u (bits64 (far_low n)) (inl own, refl) tag.uncoded nonzero (covered (Excepted WindowPoints words) c1 [] s1 tt)))
+    (subst P (far_offset n small) (compute_carries words (Excepted WindowPoints words) c1 (ADDI 5 5 (far_low n)) t u (bits64 (far_low n)) (inl own, refl) (version_uncoded t tag) nonzero (covered (Excepted WindowPoints words) c1 [] s1 tt)))
 
-sures_sized : (c : Assertion) (t : Tag) (n : ℕ) → IsCopyTag t → Sures c.regs [] → Sures (sized c t n).regs []
+sures_sized : (c : Assertion) (t : Tag) (n : ℕ) → IsVersion t → Sures c.regs [] → Sures (sized c t n).regs []
 sures_sized c t n tag sures =
     let u = upper_value (far_high n) in
-    sures_other (with_register c.regs 5 (Has t u)) 5 (Has t (8 * n)) [] (tag.unsure (8 * n)) (sures_other c.regs 5 (Has t u) [] (tag.unsure u) sures)
+    sures_other (with_register c.regs 5 (Has t u)) 5 (Has t (8 * n)) [] (not_sure_version t (Some (8 * n)) tag) (sures_other c.regs 5 (Has t u) [] (not_sure_version t (Some u) tag) sures)
 
 -- x5 is used up
 sized_less : (c : Assertion) (t : Tag) (n d b : ℕ) → d ≢ 5 → (q : ℕ) → SaysLess (with_register (sized c t n).regs d (Has t b) q) (with_register (with_register c.regs 5 Free) d (Has t b) q)
@@ -100,7 +86,7 @@ sized_less c t n d b ne =
     written_says (sized c t n).regs (with_register c.regs 5 Free) d (Has t b) (Has t b) (says_again (Has t b)) (λ r ne. s2 r)
 
 -- the copy in d, after x5 has the constant
-last_carries : (words : List ℕ) (c : Assertion) (t : Tag) (n d b : ℕ) (last : Form) → n < 0x800_0000 → IsCopyTag t → d ≢ 5 → Sures c.regs [] →
+last_carries : (words : List ℕ) (c : Assertion) (t : Tag) (n d b : ℕ) (last : Form) → n < 0x800_0000 → IsVersion t → d ≢ 5 → Sures c.regs [] →
     (Carries words (Excepted WindowPoints words) (last ∷ []) (sized c t n) (after_write (sized c t n) d (Has t b) (c.pc + 4 + 4 + 4))) →
     Carries words (Excepted WindowPoints words) (size_words n ++ last ∷ []) c (moved c d t b (c.pc + 12))
 last_carries words c t n d b last small tag ne sures word =
@@ -118,19 +104,19 @@ copy_held c t n d a ne holds =
 size_held : (c : Assertion) (t : Tag) (n : ℕ) → (sized c t n).regs 5 ≡ Has t (8 * n)
 size_held c t n = with_register-same (with_register c.regs 5 (Has t (upper_value (far_high n)))) 5 (Has t (8 * n))
 
-far_down_carries : (words : List ℕ) (c : Assertion) (t : Tag) (n d a b : ℕ) → n < 0x800_0000 → IsCopyTag t → d ≢ 5 → 0 < d → Sures c.regs [] → c.regs d ≡ Has t a → minus64 a (8 * n) ≡ b →
+far_down_carries : (words : List ℕ) (c : Assertion) (t : Tag) (n d a b : ℕ) → n < 0x800_0000 → IsVersion t → d ≢ 5 → 0 < d → Sures c.regs [] → c.regs d ≡ Has t a → minus64 a (8 * n) ≡ b →
     Carries words (Excepted WindowPoints words) (size_words n ++ SUB d d 5 ∷ []) c (moved c d t b (c.pc + 12))
 far_down_carries words c t n d a b small tag ne nonzero sures holds value =
     let P : ℕ → Type 0 = λ x. Carries words (Excepted WindowPoints words) (SUB d d 5 ∷ []) (sized c t n) (after_write (sized c t n) d (Has t x) (c.pc + 4 + 4 + 4)) in
     last_carries words c t n d b (SUB d d 5) small tag ne sures
-    (subst P value (compute_carries words (Excepted WindowPoints words) (sized c t n) (SUB d d 5) t a (8 * n) (inl (copy_held c t n d a ne holds), inl (size_held c t n)) tag.uncoded nonzero (covered (Excepted WindowPoints words) (sized c t n) [] (sures_sized c t n tag sures) tt)))
+    (subst P value (compute_carries words (Excepted WindowPoints words) (sized c t n) (SUB d d 5) t a (8 * n) (inl (copy_held c t n d a ne holds), inl (size_held c t n)) (version_uncoded t tag) nonzero (covered (Excepted WindowPoints words) (sized c t n) [] (sures_sized c t n tag sures) tt)))
 
-far_up_carries : (words : List ℕ) (c : Assertion) (t : Tag) (n d a b : ℕ) → n < 0x800_0000 → IsCopyTag t → d ≢ 5 → 0 < d → Sures c.regs [] → c.regs d ≡ Has t a → plus64 a (8 * n) ≡ b →
+far_up_carries : (words : List ℕ) (c : Assertion) (t : Tag) (n d a b : ℕ) → n < 0x800_0000 → IsVersion t → d ≢ 5 → 0 < d → Sures c.regs [] → c.regs d ≡ Has t a → plus64 a (8 * n) ≡ b →
     Carries words (Excepted WindowPoints words) (size_words n ++ ADD d d 5 ∷ []) c (moved c d t b (c.pc + 12))
 far_up_carries words c t n d a b small tag ne nonzero sures holds value =
     let P : ℕ → Type 0 = λ x. Carries words (Excepted WindowPoints words) (ADD d d 5 ∷ []) (sized c t n) (after_write (sized c t n) d (Has t x) (c.pc + 4 + 4 + 4)) in
     last_carries words c t n d b (ADD d d 5) small tag ne sures
-    (subst P value (compute_carries words (Excepted WindowPoints words) (sized c t n) (ADD d d 5) t a (8 * n) (inl (copy_held c t n d a ne holds), inl (size_held c t n)) tag.uncoded nonzero (covered (Excepted WindowPoints words) (sized c t n) [] (sures_sized c t n tag sures) tt)))
+    (subst P value (compute_carries words (Excepted WindowPoints words) (sized c t n) (ADD d d 5) t a (8 * n) (inl (copy_held c t n d a ne holds), inl (size_held c t n)) (version_uncoded t tag) nonzero (covered (Excepted WindowPoints words) (sized c t n) [] (sures_sized c t n tag sures) tt)))
 
 -- a small number taken away
 taken_away : (a b m : ℕ) → b + m ≡ a → a < 2 ^ 63 → (z : ℤ) → z ≡ pos 0 -ℤ pos m → plus64 a (bits64 z) ≡ b
@@ -140,7 +126,7 @@ taken_away a b m sum small (negsuc n) e = omega (arith, ints)
 -- what moves one copy of the stack pointer from one base to another
 abbrev MovesCopy : List ℕ → (ℕ → List Form) → ℕ → ℕ → Type 0
 MovesCopy words code base base' =
-    (c : Assertion) (t : Tag) (d : ℕ) → IsCopyTag t → d ≢ 5 → 0 < d → Sures c.regs [] → c.regs d ≡ Has t (slot_address base) →
+    (c : Assertion) (t : Tag) (d : ℕ) → IsVersion t → d ≢ 5 → 0 < d → Sures c.regs [] → c.regs d ≡ Has t (slot_address base) →
     Carries words (Excepted WindowPoints words) (code d) c (moved c d t (slot_address base') (c.pc + 4 * length (code d)))
 
 down_moves : (words : List ℕ) (n base base' : ℕ) → n < 0x800_0000 → base' + n ≡ base → 8 * base ≤ 0x4000_0000 → MovesCopy words (λ d. copy_down d n) base base'
@@ -221,8 +207,8 @@ all_moved g base q =
 not_moved : (regs : ℕ → Cell) (d q : ℕ) (cell : Cell) → q ≢ 5 → q ≢ d → move_of regs d cell q ≡ regs q
 not_moved regs d q cell ne5 ne = with_register-other (with_register regs 5 Free) d q cell ne ∙ with_register-other regs 5 q Free ne5
 
-sures_moved : (regs : ℕ → Cell) (d a : ℕ) (t : Tag) → IsCopyTag t → Sures regs [] → Sures (move_of regs d (Has t a)) []
-sures_moved regs d a t tag sures = sures_other (with_register regs 5 Free) d (Has t a) [] (tag.unsure a) (sures_other regs 5 Free [] free_unsure sures)
+sures_moved : (regs : ℕ → Cell) (d a : ℕ) (t : Tag) → IsVersion t → Sures regs [] → Sures (move_of regs d (Has t a)) []
+sures_moved regs d a t tag sures = sures_other (with_register regs 5 Free) d (Has t a) [] (not_sure_version t (Some a) tag) (sures_other regs 5 Free [] free_unsure sures)
 
 frame_carries : (words : List ℕ) (g : Stage) (base : ℕ) (code : ℕ → List Form) → MovesCopy words code g.base base → IsView (resting g One) → (p : ℕ) →
     Carries words (Excepted WindowPoints words) (code 2 ++ (code 3 ++ code 4)) (at_address (resting g One) p) (at_address (resting (based_at g base) One) (p + 4 * length (code 2 ++ (code 3 ++ code 4))))
@@ -235,8 +221,8 @@ frame_carries words g base code moves is p =
     let c2 = moved (at_address (resting g One) p) 2 One (slot_address base) (p + 4 * length (code 2)) in
     let c3 = moved c2 3 Two (slot_address base) (p + 4 * length (code 2) + 4 * length (code 3)) in
     let s0 = sures_view (resting g One) is in
-    let s2 = sures_moved c0.regs 2 sp One one_tag s0 in
-    let s3 = sures_moved c2.regs 3 sp Two two_tag s2 in
+    let s2 = sures_moved c0.regs 2 sp One tt s0 in
+    let s3 = sures_moved c2.regs 3 sp Two tt s2 in
     let a25 : 2 ≢ 5 = omega arith in
     let a35 : 3 ≢ 5 = omega arith in
     let a45 : 4 ≢ 5 = omega arith in
@@ -250,9 +236,9 @@ frame_carries words g base code moves is p =
     let four : c3.regs 4 ≡ Has Three (slot_address g.base) = not_moved c2.regs 3 4 (Has Two sp) a45 a43 ∙ not_moved c0.regs 2 4 (Has One sp) a45 a42 ∙ view_cell-four g One no_values in
     let size : length (code 2 ++ (code 3 ++ code 4)) ≡ length (code 2) + (length (code 3) + length (code 4)) = length-append (code 2) (code 3 ++ code 4) ∙ ap (λ n. length (code 2) + n) (length-append (code 3) (code 4)) in
     let there : p + 4 * length (code 2 ++ (code 3 ++ code 4)) ≡ p + 4 * length (code 2) + 4 * length (code 3) + 4 * length (code 4) = omega arith in
-    joined (moves c0 One 2 one_tag a25 n2 s0 (view_cell-two g One no_values))
-    (joined (moves c2 Two 3 two_tag a35 n3 s2 three)
-    (carries_less (knows_same c3) (moves c3 Three 4 three_tag a45 n4 s3 four)
+    joined (moves c0 One 2 tt a25 n2 s0 (view_cell-two g One no_values))
+    (joined (moves c2 Two 3 tt a35 n3 s2 three)
+    (carries_less (knows_same c3) (moves c3 Three 4 tt a45 n4 s3 four)
     (knows_regs c0 (p + 4 * length (code 2) + 4 * length (code 3) + 4 * length (code 4)) (p + 4 * length (code 2 ++ (code 3 ++ code 4))) (move_of c3.regs 4 (Has Three sp)) (view_cell (based_at g base) One no_values) there (all_moved g base))))
 
 pub frames_go_down : (words : List ℕ) (g : Stage) (n base : ℕ) → n < 0x800_0000 → base + n ≡ g.base → Runs words (frame_down n) (resting g One) (resting (based_at g base) One)

@@ -34,10 +34,11 @@ EntriesKeepLinks = (words : List ℕ) (g : Stage) (p m : ℕ) (offset : ℤ) →
 abbrev pub call_words : ℕ → List Copy → ℤ → List Form
 call_words n args offset = (frame_down n ++ copies_words args) ++ JAL 1 offset ∷ []
 
--- where the jump of a call stands, and where it returns to
+-- where the jump of a call at p stands
 abbrev pub jump_of : ℕ → ℕ → List Copy → ℕ
 jump_of p n args = p + 4 * length (frame_down n ++ copies_words args)
 
+-- where that call returns to: the word after its jump
 abbrev pub back_of : ℕ → ℕ → List Copy → ℕ
 back_of p n args = jump_of p n args + 4
 
@@ -109,6 +110,7 @@ ResultsReturn = (words : List ℕ) (g : Stage) (p m back : ℕ) (cs : List Copy)
 abbrev pub after_words : List Copy → ℕ → List Form
 after_words cs n = copies_words cs ++ frame_up n
 
+-- the result is there, and the frame is the caller's again
 abbrev pub ResultsAreTaken : Type 0
 ResultsAreTaken = (words : List ℕ) (g : Stage) (n base : ℕ) (cs : List Copy) (values : ℕ → Option ℕ) → CanCopy g cs values → Compatible cs
     → n < 0x800_0000 → g.base + n ≡ base → 8 * base ≤ 0x4000_0000

@@ -11,17 +11,19 @@ use Rattle.flip_versions.specs.Operations.{resting}
 abbrev pub size_words : ℕ → List Form
 size_words n = LUI 5 (far_high n) ∷ ADDI 5 5 (far_low n) ∷ []
 
--- the copy in d goes n slots down, and up
+-- the copy in d goes n slots down
 abbrev pub copy_down : ℕ → ℕ → List Form
 copy_down d n = if is_near n then ADDI d d (pos 0 -ℤ pos (8 * n)) ∷ [] else size_words n ++ SUB d d 5 ∷ []
 
+-- it goes n slots up
 abbrev pub copy_up : ℕ → ℕ → List Form
 copy_up d n = if is_near n then ADDI d d (pos (8 * n)) ∷ [] else size_words n ++ ADD d d 5 ∷ []
 
--- all three copies do
+-- all three copies go down
 abbrev pub frame_down : ℕ → List Form
 frame_down n = copy_down 2 n ++ (copy_down 3 n ++ copy_down 4 n)
 
+-- all three copies go up
 abbrev pub frame_up : ℕ → List Form
 frame_up n = copy_up 2 n ++ (copy_up 3 n ++ copy_up 4 n)
 

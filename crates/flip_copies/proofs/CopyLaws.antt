@@ -13,7 +13,7 @@ use Rattle.flip_frames.proofs.ViewLemmas.{view_cell-zero, view_cell-two, view_ce
 use Rattle.flip_frames.proofs.RunLaws.{runs_then, runs_none, runs_less}
 use Rattle.flip_frames.proofs.AnySlots.{any_store_runs}
 use Rattle.flip_versions.specs.Operations.{resting, IsSlot, AreSlots, HoldsVersions, stored, defined}
-use Rattle.flip_versions.proofs.VersionLaws.{defined_hold, others_stay}
+use Rattle.flip_versions.proofs.VersionLaws.{slot_after, defined_hold, others_stay}
 use Rattle.flip_guards.specs.Slots.{IsFramed}
 use Rattle.flip_guards.specs.Sources.{Source, InSlot, InRegister, Constant, bring, Gives}
 use Rattle.flip_guards.specs.Fetching.{Operand, IsGiven}
@@ -90,10 +90,6 @@ version_runs words g t t' s n o turn turn' gives slot =
     (runs_then (brings_run words g t s o turn gives)
     (runs_less t' no_values turn' (λ q. says_free (version t ((far_view v).file q))) (any_store_runs words v 5 n refl (omega arith) (omega arith) slot.small slot.within)))
 
--- a slot in reach stays in reach
-pub slot_stored : (g : Stage) (d : ℕ) (t : Tag) (o : Option ℕ) (n : ℕ) → IsSlot g n → IsSlot (stored g d t o) n
-slot_stored g d t o n s = record { within = s.within; small = s.small }
-
 -- what is read from elsewhere stays
 same_place : (g : Stage) (d : ℕ) (t : Tag) (o : Option ℕ) (q : ℕ) → view_cell (stored g d t o) One no_values q ≡ view_cell g One no_values q
 unfolding view_cell
@@ -112,9 +108,9 @@ copy_runs words g x d o gives slots time =
     let g1 = stored g d.one One o in
     let g2 = stored g1 d.two Two o in
     runs_then (version_runs words g One Two x.one d.one o tt tt gives.one slots.one)
-    (runs_then (version_runs words g1 Two Three x.two d.two o tt tt (gives_stored g d.one Two One o o x.two gives.two time.two_one) (slot_stored g d.one One o d.two slots.two))
+    (runs_then (version_runs words g1 Two Three x.two d.two o tt tt (gives_stored g d.one Two One o o x.two gives.two time.two_one) (slot_after g d.two d.one One o slots.two))
     (version_runs words g2 Three One x.three d.three o tt tt (gives_stored g1 d.two Three Two o o x.three (gives_stored g d.one Three One o o x.three gives.three time.three_one) time.three_two)
-    (slot_stored g1 d.two Two o d.three (slot_stored g d.one One o d.three slots.three))))
+    (slot_after g1 d.three d.two Two o (slot_after g d.three d.one One o slots.three))))
 
 -- slots that aren't written hold what they held
 pub holds_defined : (g : Stage) (d x : Triple) (o o' : Option ℕ) → HoldsVersions g x o → IsClear d x → HoldsVersions (defined g d o') x o

@@ -20,10 +20,11 @@ pub record Copy : Type 0 where
 abbrev pub version_copy : Source → ℕ → List Form
 version_copy s n = bring 5 s ++ any_store 5 n
 
--- all three, and all copies
+-- all three versions
 abbrev pub operand_copy : Operand → Triple → List Form
 operand_copy x d = version_copy x.one d.one ++ (version_copy x.two d.two ++ version_copy x.three d.three)
 
+-- the words of copies one after another
 abbrev pub copies_words : List Copy → List Form
 copies_words [] = []
 copies_words (c ∷ cs) = operand_copy c.source c.goal ++ copies_words cs
@@ -64,6 +65,7 @@ pub record LeavesAlone (d : Triple) (later : Copy) : Type 0 where
   pub three : IsUnread d later.source.three
   pub written : IsClear d later.goal
 
+-- none of the later copies does
 abbrev pub AllLeaveAlone : Triple → List Copy → Type 0
 AllLeaveAlone d [] = Unit {0}
 AllLeaveAlone d (c ∷ cs) = LeavesAlone d c × AllLeaveAlone d cs
@@ -98,6 +100,7 @@ pub record IsBeside (base : ℕ) (d : Triple) (k : ℕ) : Type 0 where
   pub two : k ≢ base + d.two
   pub three : k ≢ base + d.three
 
+-- it is none of the slots that the copies write
 abbrev pub IsBesideAll : ℕ → List Copy → ℕ → Type 0
 IsBesideAll base [] k = Unit {0}
 IsBesideAll base (c ∷ cs) k = IsBeside base c.goal k × IsBesideAll base cs k

@@ -26,6 +26,7 @@ abbrev pub from_cells : List PhiInput → List Copy
 from_cells [] = []
 from_cells (x ∷ xs) = record { source = in_slots x.cell; goal = x.place; id = x.id } ∷ from_cells xs
 
+-- the words of an edge: all inputs are read before any phi is set
 abbrev pub edge_words : List PhiInput → List Form
 edge_words xs = copies_words (to_cells xs) ++ copies_words (from_cells xs)
 

@@ -1,25 +1,28 @@
 -- Operands that are fetched.
-use Rattle.std.proofs.Common.{◌≡◌, ◌≢◌, ℕ, suc, ◌+◌, ◌*◌, ◌<◌, ◌==◌, Bool, true, false, cond, List, [], ◌∷◌, ◌++◌, length, Option, Some, None, refl, sym, ◌∙◌, ap, subst, arith, lit<, append_assoc, length-append}
-use Rattle.std.specs.Prelude.{pos, IsTrue}
+use Rattle.std.proofs.Common.{◌≡◌, ◌≢◌, ℕ, suc, ◌+◌, ◌*◌, ◌%◌, ◌<◌, ◌^◌, ◌==◌, Bool, true, false, cond, List, [], ◌∷◌, ◌++◌, length, Option, Some, None, refl, sym, ◌∙◌, ap, subst, arith, lit<, append_assoc, length-append, lit≤}
+use Rattle.std.specs.Prelude.{pos, IsTrue, nat_lt, ◌&&◌, ◌||◌}
+use Rattle.std.proofs.lemmas.Bool.{or_left}
 use Rattle.std.proofs.lemmas.Bool.Decides.{nat_tests}
 use Rattle.rv_inst.specs.declared.instruction.Form.{Form}
 use Rattle.rv_inst.specs.declared.instruction.Form.TheVariants.{BEQ}
 use Rattle.rv_inst.specs.Registers.{reads}
-use Rattle.rv_inst.specs.Window.{may_use}
+use Rattle.rv_inst.specs.Window.{IsWindowPoint, begins, may_use, is_operand_register, is_ecall, has_window}
+use Rattle.rv_model.specs.Text.{text_base, Stands}
 use Rattle.rv_flips.specs.Cells.{Tag, Sure, One, Two, Three, Cell, Free, Has, SaysLess}
 use Rattle.rv_flips.specs.Assertion.{Assertion, KnowsLess, with_register, after_write}
 use Rattle.rv_flips.specs.Known.{Sures}
 use Rattle.rv_flips.specs.Moves.{Covered}
-use Rattle.rv_flips.proofs.CellLemmas.{with_register-same, with_register-other, says_same, says_free}
-use Rattle.rv_flips.proofs.KnownRegisters.{covered, sures_other}
+use Rattle.rv_flips.proofs.CellLemmas.{same_test, other_test, with_register-same, with_register-other, says_same, says_free}
+use Rattle.rv_flips.proofs.KnownRegisters.{covered, sures_sure, sures_other}
 use Rattle.flip_words.specs.Placed.{WindowPoints, AllPoints, Excepted, IsPlaced, Carries}
 use Rattle.flip_words.specs.Joining.{promoted_cell, promoted, checked}
 use Rattle.flip_words.proofs.CarryLemmas.{placed_back, joined, carries_less}
 use Rattle.flip_words.proofs.LessLemmas.{says_again, says_then, knows_same, knows_regs, promoted_says, written_says}
 use Rattle.flip_words.proofs.CheckLaw.{check_carries}
+use Rattle.flip_words.proofs.Windows.{window_after}
 use Rattle.flip_frames.specs.Views.{Stage, IsView, IsVersion, is_scratch, version, view_cell, at_address, no_values}
 use Rattle.flip_frames.specs.Fetching.{Triple}
-use Rattle.flip_frames.proofs.ViewLemmas.{scratch_above, view_cell-zero, view_cell-two, view_cell-three, view_cell-four, view_cell-scratch, sures_view}
+use Rattle.flip_frames.proofs.ViewLemmas.{scratch_above, view_cell-zero, view_cell-two, view_cell-three, view_cell-four, view_cell-scratch, sures_view, not_sure_version}
 use Rattle.flip_versions.specs.Operations.{resting, AreSlots, HoldsVersions}
 use Rattle.flip_guards.specs.Guards.{KeptRegister, Kept, over, guard_at, guarded}
 use Rattle.flip_guards.specs.Slots.{IsFramed, used_up}
@@ -28,7 +31,7 @@ use Rattle.flip_guards.specs.Fetching.{Operand, in_slots, constant, GivesAll, Is
 use Rattle.flip_guards.proofs.Lines.{forgets, all_in_windows, sures_over, IsCalm, Line, line_start, line_forget, line_carries, line_front, covered_at}
 use Rattle.flip_guards.proofs.LineWords.{line_check, line_check_any}
 use Rattle.flip_guards.proofs.SlotWords.{used_regs, used-other}
-use Rattle.flip_guards.proofs.SourceLaws.{making, parts_carry, version_unsure, source_carries}
+use Rattle.flip_guards.proofs.SourceLaws.{making, parts_carry, source_carries}
 
 pub triples_give : (g : Stage) (x : Triple) (o : Option ℕ) → AreSlots g x → HoldsVersions g x o → IsGiven g (in_slots x) o
 triples_give g x o slots holds =
@@ -42,23 +45,26 @@ pub constants_give : (g : Stage) (parts : List Part) (v : ℕ) → made parts No
 constants_give g parts v e = record { one = e; two = e; three = e }
 
 -- where nothing is known of x28 and x29 they may be used up
+pub unused : (regs : ℕ → Cell) (q : ℕ) → regs 28 ≡ Free → regs 29 ≡ Free → SaysLess (used_regs regs q) (regs q)
+unused regs q first second = each (q == 28) (q == 29) refl refl
+  where
+    each : (x y : Bool) → (q == 28) ≡ x → (q == 29) ≡ y → SaysLess (used_regs regs q) (regs q)
+    each true y e f =
+        let same : 28 ≡ q = grind (arith, nat_tests) in
+        let P : ℕ → Type 0 = λ r. SaysLess (used_regs regs r) (regs r) in
+        subst P same (rw first (says_free (used_regs regs 28)))
+    each false true e f =
+        let same : 29 ≡ q = grind (arith, nat_tests) in
+        let P : ℕ → Type 0 = λ r. SaysLess (used_regs regs r) (regs r) in
+        subst P same (rw second (says_free (used_regs regs 29)))
+    each false false e f =
+        let ne : q ≢ 28 = grind (arith, nat_tests) in
+        let ne' : q ≢ 29 = grind (arith, nat_tests) in
+        says_same (used_regs regs q) (regs q) (used-other regs q ne ne')
+
 still_known : (c : Assertion) (d p : ℕ) (cell : Cell) → c.regs 28 ≡ Free → c.regs 29 ≡ Free → KnowsLess (after_write (used_up c p) d cell p) (after_write c d cell p)
 still_known c d p cell first second =
-    knows_regs c p p (with_register (used_regs c.regs) d cell) (with_register c.regs d cell) refl (written_says (used_regs c.regs) c.regs d cell cell (says_again cell) (λ k ne. each k (k == 28) (k == 29) refl refl))
-  where
-    each : (k : ℕ) (x y : Bool) → (k == 28) ≡ x → (k == 29) ≡ y → SaysLess (used_regs c.regs k) (c.regs k)
-    each k true y e f =
-        let same : 28 ≡ k = grind (arith, nat_tests) in
-        let P : ℕ → Type 0 = λ q. SaysLess (used_regs c.regs q) (c.regs q) in
-        subst P same (rw first (says_free (used_regs c.regs 28)))
-    each k false true e f =
-        let same : 29 ≡ k = grind (arith, nat_tests) in
-        let P : ℕ → Type 0 = λ q. SaysLess (used_regs c.regs q) (c.regs q) in
-        subst P same (rw second (says_free (used_regs c.regs 29)))
-    each k false false e f =
-        let ne : k ≢ 28 = grind (arith, nat_tests) in
-        let ne' : k ≢ 29 = grind (arith, nat_tests) in
-        says_same (used_regs c.regs k) (c.regs k) (used-other c.regs k ne ne')
+    knows_regs c p p (with_register (used_regs c.regs) d cell) (with_register c.regs d cell) refl (written_says (used_regs c.regs) c.regs d cell cell (says_again cell) (λ k ne. unused c.regs k first second))
 
 -- one version
 comes : (words : List ℕ) (c : Assertion) (base d : ℕ) (s : Source) (tag : Tag) (o : Option ℕ) → IsFramed c base → c.regs 28 ≡ Free → c.regs 29 ≡ Free → 4 < d → IsVersion tag → Gives c base s tag o →
@@ -74,7 +80,7 @@ framed_after c base d p tag o framed above is =
       one = with_register-other c.regs d 2 (version tag o) (omega arith) ∙ framed.one;
       two = with_register-other c.regs d 3 (version tag o) (omega arith) ∙ framed.two;
       three = with_register-other c.regs d 4 (version tag o) (omega arith) ∙ framed.three;
-      sures = sures_other c.regs d (version tag o) [] (version_unsure tag o is) framed.sures;
+      sures = sures_other c.regs d (version tag o) [] (not_sure_version tag o is) framed.sures;
       size = framed.size;
       frame = framed.frame;
     }
@@ -339,9 +345,9 @@ constant_is_guarded words c d b parts v x0 sures d0 b0 ne e =
     let one : c2.regs d ≡ Has One v = with_register-other c1.regs b d (Has Two v) ne ∙ with_register-same c.regs d (Has One v) in
     let two : c2.regs b ≡ Has Two v = with_register-same c1.regs b (Has Two v) in
     let first : Carries words W (part_words d parts) c c1 =
-    at_value words W c d One parts v c e (carries_less (starts c d One) (parts_carry words W c d c.pc One parts None x0 d0 tt (λ q x. covered W (making c d One x q) [] (sures_other c.regs d (version One x) [] (version_unsure One x tt) sures) tt)) (knows_same (making c d One (made parts None) p1))) in
+    at_value words W c d One parts v c e (carries_less (starts c d One) (parts_carry words W c d c.pc One parts None x0 d0 tt (λ q x. covered W (making c d One x q) [] (sures_other c.regs d (version One x) [] (not_sure_version One x tt) sures) tt)) (knows_same (making c d One (made parts None) p1))) in
     let second : Carries words W (part_words b parts) c1 c2 =
-    at_value words W c1 b Two parts v c1 e (carries_less (starts c1 b Two) (parts_carry words W c1 b p1 Two parts None zero1 b0 tt (λ q x. covered W (making c1 b Two x q) [] (sures_other c1.regs b (version Two x) [] (version_unsure Two x tt) s1) tt)) (knows_same (making c1 b Two (made parts None) p2))) in
+    at_value words W c1 b Two parts v c1 e (carries_less (starts c1 b Two) (parts_carry words W c1 b p1 Two parts None zero1 b0 tt (λ q x. covered W (making c1 b Two x q) [] (sures_other c1.regs b (version Two x) [] (not_sure_version Two x tt) s1) tt)) (knows_same (making c1 b Two (made parts None) p2))) in
     let c3 = promoted c2 (p2 + 4) in
     let zero3 : c3.regs 0 ≡ Has Sure 0 = ap promoted_cell zero2 in
     let again : Carries words (Excepted AllPoints words) (part_words d parts) c3 (making c3 d Sure (Some v) (p2 + 4 + 4 * length (part_words d parts))) =
@@ -399,3 +405,46 @@ constant_is_guarded words c d b parts v x0 sures d0 b0 ne e =
     at_value words W c d tag parts v from e one =
         let P : Option ℕ → Type 0 = λ x. Carries words W (part_words d parts) from (making c d tag x (from.pc + 4 * length (part_words d parts))) in
         subst P e one
+
+-- the check of a register that may have a window begins one
+check_begins : (d b n : ℕ) → 0 < b → d ≢ b → 0 < n → begins d (BEQ d b (pos (4 * n + 4))) ≡ true
+check_begins d b n some ne far =
+    let own : (d == d) ≡ true = same_test d in
+    let above : nat_lt 0 b ≡ true = grind (arith, nat_tests) in
+    let other : (b == d) ≡ false = other_test b d (λ e. ne (sym e)) in
+    let not_next : (4 * n + 4 == 4) ≡ false = grind (arith, nat_tests) in
+    rw (own, above, other, not_next) refl
+
+operand_windows : (d b n : ℕ) (j : Form) → is_operand_register d ≡ true → has_window d (BEQ d b (pos n)) j ≡ true
+operand_windows d b n j e =
+    let second = d == 10 && (is_ecall (BEQ d b (pos n)) || is_ecall j) in
+    let third = (d == 11 || d == 12 || d == 17) && is_ecall j in
+    or_left (is_operand_register d || second) third (or_left (is_operand_register d) second e)
+
+pub constant_is_covered : (words : List ℕ) (c : Assertion) (d b : ℕ) (parts : List Part) (v : ℕ) (j : Form) → Sures c.regs [] → IsTrue (is_operand_register d) → 0 < b → d ≢ b → 0 < length (part_words d parts) →
+    IsPlaced words c.pc (guarded_constant d b parts ++ j ∷ []) → IsTrue (reads j d) → IsTrue (may_use d (BEQ d b (pos (4 * length (part_words d parts) + 4))) j) →
+    Covered (Excepted WindowPoints words) (after_write (after_write c b Free (c.pc + 4 * length (guarded_constant d b parts))) d (Has Sure v) (c.pc + 4 * length (guarded_constant d b parts)))
+constant_is_covered words c d b parts v j sures operand some ne far placed read used =
+    let n = length (part_words d parts) in
+    let first = part_words d parts in
+    let second = part_words b parts in
+    let repair = part_words d parts in
+    let end = c.pc + 4 * length (guarded_constant d b parts) in
+    let P : List Form → Type 0 = λ code. IsPlaced words c.pc code in
+    let whole : (first ++ (second ++ checked d b repair)) ++ j ∷ [] ≡ first ++ ((second ++ checked d b repair) ++ j ∷ []) = append_assoc first (second ++ checked d b repair) (j ∷ []) in
+    let p2 = c.pc + 4 * length first + 4 * length second in
+    let check : IsPlaced words (c.pc + 4 * length (part_words d parts) + 4 * length (part_words b parts)) (checked d b (part_words d parts) ++ j ∷ []) =
+    placed_after words (c.pc + 4 * length first) second (checked d b repair) j (placed_back words c.pc first ((second ++ checked d b repair) ++ j ∷ []) (subst P whole placed)) in
+    let sizes : c.pc + 4 * length (part_words d parts) + 4 * length (part_words b parts) + (4 * length (part_words d parts) + 4) ≡ c.pc + 4 * length (guarded_constant d b parts) =
+    omega (arith, length-append first (second ++ checked d b repair), length-append second (checked d b repair)) in
+    let last : IsPlaced words (p2 + 4 * length (checked d b repair)) (j ∷ []) = placed_back words p2 (checked d b repair) (j ∷ []) check in
+    let there : (p2 + (4 * n + 4)) % 2 ^ 64 ≡ end = omega (arith, check.room, length-append (checked d b repair) (j ∷ [])) in
+    let at : end + 4 * 0 ≡ end = omega arith in
+    let here : p2 + 4 * length (checked d b repair) ≡ end = omega arith in
+    let Q : ℕ → Type 0 = λ q. Stands words q j × Unit {0} in
+    let R : ℕ → Type 0 = λ q. IsWindowPoint words text_base q d in
+    let window : IsWindowPoint words text_base end d =
+    subst R at
+    (window_after words p2 end d (BEQ d b (pos (4 * n + 4))) [] j 0 check.stands.0 there (subst Q here last.stands) tt (lit≤ tt) (lit≤ tt) tt (check_begins d b n some ne far) read used (operand_windows d b (4 * n + 4) j operand)) in
+    covered (Excepted WindowPoints words) (after_write (after_write c b Free end) d (Has Sure v) end) (d ∷ [])
+    (sures_sure (with_register c.regs b Free) d v [] (sures_other c.regs b Free [] (λ w e. cc) sures)) (window, tt)

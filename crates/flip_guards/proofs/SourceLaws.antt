@@ -3,7 +3,7 @@ use Rattle.std.proofs.Common.{◌≡◌, ℕ, suc, ◌+◌, ◌*◌, ◌<◌, in
 use Rattle.rv_inst.specs.declared.instruction.Form.{Form}
 use Rattle.rv_inst.specs.declared.instruction.Form.TheVariants.{ADDI, ADDIW, SLLI}
 use Rattle.rv_model.specs.Operations.{bits64, upper_value}
-use Rattle.rv_flips.specs.Cells.{Tag, Sure, One, Two, Three, Plain, Code, Leaf, Cell, Free, Has, SaysLess}
+use Rattle.rv_flips.specs.Cells.{Tag, Sure, Cell, Free, Has, SaysLess}
 use Rattle.rv_flips.specs.Assertion.{Assertion, KnowsLess, with_register, after_write}
 use Rattle.rv_flips.specs.Computing.{IsUncoded}
 use Rattle.rv_flips.specs.Moves.{Covered}
@@ -15,6 +15,8 @@ use Rattle.flip_words.proofs.LessLemmas.{says_again, knows_same, knows_regs, wri
 use Rattle.flip_words.proofs.ComputeLaws.{compute_carries, upper_carries, constant_carries, copy_carries}
 use Rattle.flip_words.proofs.SlotLaws.{anything_carries}
 use Rattle.flip_frames.specs.Views.{IsVersion, version}
+use Rattle.flip_frames.proofs.RunLaws.{version_uncoded}
+use Rattle.flip_frames.proofs.ViewLemmas.{not_sure_version}
 use Rattle.flip_guards.specs.Slots.{IsFramed, used_up}
 use Rattle.flip_guards.specs.Sources.{Part, Upper, Small, Plus, PlusWord, Shifted, part_word, part_words, part_value, made, Source, InSlot, InRegister, Constant, bring, Gives}
 use Rattle.flip_guards.proofs.Lines.{forgets}
@@ -71,26 +73,6 @@ parts_carry words listed c d p tag (x ∷ xs) o x0 nonzero uncoded covered =
     let P : ℕ → Type 0 = λ q. Carries words listed (part_words d (x ∷ xs)) (making c d tag o p) (making c d tag (made xs (part_value x o)) q) in
     subst P there (joined (part_carries words listed c d p tag x o x0 nonzero uncoded (covered p o)) (parts_carry words listed c d (p + 4) tag xs (part_value x o) x0 nonzero uncoded covered))
 
--- nothing is kept for sure where a version is
-pub version_unsure : (tag : Tag) (o : Option ℕ) → IsVersion tag → (w : ℕ) → version tag o ≡ Has Sure w → ⊥
-version_unsure tag None is w e = cc
-version_unsure One (Some v) is w e = cc
-version_unsure Two (Some v) is w e = cc
-version_unsure Three (Some v) is w e = cc
-version_unsure Plain (Some v) is w e = cc
-version_unsure Sure (Some v) is w e = absurd is
-version_unsure Code (Some v) is w e = absurd is
-version_unsure (Leaf first more) (Some v) is w e = absurd is
-
-pub version_uncoded : (tag : Tag) → IsVersion tag → IsUncoded tag
-version_uncoded One is = tt
-version_uncoded Two is = tt
-version_uncoded Three is = tt
-version_uncoded Plain is = tt
-version_uncoded Sure is = tt
-version_uncoded Code is = absurd is
-version_uncoded (Leaf first more) is = absurd is
-
 -- x28 and x29 may be used up besides
 also_used : (c : Assertion) (d p q : ℕ) (cell : Cell) → q ≡ p → KnowsLess (after_write c d cell p) (after_write (used_up c q) d cell q)
 also_used c d p q cell at =
@@ -110,6 +92,6 @@ source_carries words c base d (Constant parts) tag o framed above is gives =
     let P : Option ℕ → Type 0 = λ x. Carries words (Excepted WindowPoints words) (part_words d parts) (making c d tag None c.pc) (making c d tag x (c.pc + 4 * length (part_words d parts))) in
     let all = subst P gives
     (parts_carry words (Excepted WindowPoints words) c d c.pc tag parts None framed.zero nonzero (version_uncoded tag is)
-    (λ q x. covered (Excepted WindowPoints words) (making c d tag x q) [] (sures_other c.regs d (version tag x) [] (version_unsure tag x is) framed.sures) tt)) in
+    (λ q x. covered (Excepted WindowPoints words) (making c d tag x q) [] (sures_other c.regs d (version tag x) [] (not_sure_version tag x is) framed.sures) tt)) in
     carries_less (knows_regs c c.pc c.pc c.regs (with_register c.regs d Free) refl (λ q. forgets c.regs d q)) all
     (also_used c d (c.pc + 4 * length (part_words d parts)) (c.pc + 4 * length (part_words d parts)) (version tag o) refl)

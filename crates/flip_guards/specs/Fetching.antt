@@ -3,7 +3,7 @@ use Rattle.std.specs.Prelude.{◌≡◌, ◌≢◌, ℕ, ◌+◌, ◌*◌, ◌<�
 use Rattle.rv_inst.specs.declared.instruction.Form.{Form}
 use Rattle.rv_inst.specs.declared.instruction.Form.TheVariants.{ADDI, BEQ}
 use Rattle.rv_inst.specs.Registers.{reads}
-use Rattle.rv_inst.specs.Window.{may_use}
+use Rattle.rv_inst.specs.Window.{may_use, is_operand_register}
 use Rattle.rv_flips.specs.Cells.{Sure, One, Two, Three, Free, Has}
 use Rattle.rv_flips.specs.Assertion.{Assertion, after_write}
 use Rattle.rv_flips.specs.Known.{Sures}
@@ -128,4 +128,12 @@ abbrev pub ConstantsAreGuarded : Type 0
 ConstantsAreGuarded = (words : List ℕ) (c : Assertion) (d b : ℕ) (parts : List Part) (v : ℕ) → c.regs 0 ≡ Has Sure 0 → Sures c.regs [] → 0 < d → 0 < b → d ≢ b
     → made parts None ≡ Some v
     → Carries words (Excepted WindowPoints words) (guarded_constant d b parts) c
+    (after_write (after_write c b Free (c.pc + 4 * length (guarded_constant d b parts))) d (Has Sure v) (c.pc + 4 * length (guarded_constant d b parts)))
+
+-- where the next word uses d, a flip of d before it falls at a window point
+abbrev pub GuardedConstantsAreCovered : Type 0
+GuardedConstantsAreCovered = (words : List ℕ) (c : Assertion) (d b : ℕ) (parts : List Part) (v : ℕ) (j : Form) → Sures c.regs []
+    → IsTrue (is_operand_register d) → 0 < b → d ≢ b → 0 < length (part_words d parts) → IsPlaced words c.pc (guarded_constant d b parts ++ j ∷ [])
+    → IsTrue (reads j d) → IsTrue (may_use d (BEQ d b (pos (4 * length (part_words d parts) + 4))) j)
+    → Covered (Excepted WindowPoints words)
     (after_write (after_write c b Free (c.pc + 4 * length (guarded_constant d b parts))) d (Has Sure v) (c.pc + 4 * length (guarded_constant d b parts)))

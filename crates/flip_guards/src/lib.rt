@@ -8,7 +8,7 @@ ghost use Rattle.flip_guards.specs.Sources.{SourcesComeIn};
 ghost use Rattle.flip_guards.specs.Fetching.{TriplesGive, ConstantsGive, OperandsComeIn};
 ghost use Rattle.flip_guards.specs.Fetching.{OperandsAreFetched, FetchedOperandsAreCovered};
 ghost use Rattle.flip_guards.specs.Fetching.{TwoOperandsAreFetched, TwoFetchedAreCovered};
-ghost use Rattle.flip_guards.specs.Fetching.{ConstantsAreGuarded};
+ghost use Rattle.flip_guards.specs.Fetching.{ConstantsAreGuarded, GuardedConstantsAreCovered};
 
 /// States that what the search along the words finds is a window point.
 pub fn windows_are_found()
@@ -57,7 +57,9 @@ pub fn two_operands_are_fetched()
     ensures covered { TwoFetchedAreCovered }
 {}
 
-/// States that a constant that is made twice and compared, else made a third time, is right.
+/// States that a constant that is made twice and compared, else made a third time, is right, and that a flip of it
+/// before the next word, where that word uses it, falls at a window point.
 pub fn constants_are_guarded()
-    ensures { ConstantsAreGuarded }
+    ensures guarded { ConstantsAreGuarded }
+    ensures covered { GuardedConstantsAreCovered }
 {}

@@ -13,15 +13,14 @@ use Rattle.flip_frames.specs.Views.{Stage, IsVersion, Runs, version, view_cell, 
 use Rattle.flip_frames.specs.Fetching.{Triple}
 use Rattle.flip_frames.specs.Slots.{any_store}
 use Rattle.flip_frames.proofs.ViewLemmas.{view_cell-zero, with_value-same}
-use Rattle.flip_frames.proofs.RunLaws.{runs_then}
+use Rattle.flip_frames.proofs.RunLaws.{runs_then, version_uncoded}
 use Rattle.flip_versions.specs.Operations.{resting, IsSlot, AreSlots, stored, defined}
-use Rattle.flip_versions.proofs.VersionLaws.{store_turns}
+use Rattle.flip_versions.proofs.VersionLaws.{store_turns, slot_after}
 use Rattle.flip_guards.specs.Guards.{Kept, guard_at, guarded}
 use Rattle.flip_guards.specs.Sources.{of_known}
 use Rattle.flip_guards.proofs.Lines.{is_sure, Line, line_start, line_forget}
 use Rattle.flip_guards.proofs.LineWords.{line_upper, line_constant, line_compute}
 use Rattle.flip_guards.proofs.FetchLaws.{free_scratch}
-use Rattle.flip_guards.proofs.SourceLaws.{version_uncoded}
 use Rattle.flip_guards.proofs.GuardRuns.{runs_weaker, line_runs, version_view}
 use Rattle.flip_bytes.specs.Bytes.{known_number, with_bytes, without_slots}
 use Rattle.flip_bytes.proofs.ByteLines.{bytes_stored, read_around, read_count, line_load_bytes, line_store_bytes, line_read}
@@ -189,9 +188,6 @@ taken_is (x ∷ xs) small = let byte : x < 2 ^ 8 = small 0 in omega arith
 -- the cell and the count stay while slots of a frame above them are stored
 still_there : (g : Stage) (n q : ℕ) (t : Tag) (o : Option ℕ) (known : KnownByte) → 0 < g.base → q < 8 → g.bytes q ≡ known → (stored g n t o).bytes q ≡ known
 still_there g n q t o known above small e = let apart : g.base + n ≢ 0 = omega arith in cell_stays g.bytes (g.base + n) q apart small ∙ e
-
-slot_after : (g : Stage) (n d : ℕ) (t : Tag) (o : Option ℕ) → IsSlot g n → IsSlot (stored g d t o) n
-slot_after g n d t o s = record { within = s.within; small = s.small }
 
 all_taken : (words : List ℕ) (g : Stage) (d : Triple) (cell count : ℕ) → AreSlots g d → 8 ≤ g.size → 0 < g.base → g.bytes 0 ≡ IsByte cell → g.bytes 1 ≡ IsByte count →
     Runs words ((taken_words ++ any_store 5 d.one) ++ ((taken_words ++ any_store 5 d.two) ++ (taken_words ++ any_store 5 d.three))) (resting g One) (resting (defined g d (Some (taken_number cell count))) One)

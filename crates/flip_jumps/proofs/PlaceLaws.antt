@@ -4,12 +4,13 @@ use Rattle.std.specs.Prelude.{ℤ}
 use Rattle.rv_inst.specs.declared.instruction.Form.{Form}
 use Rattle.rv_inst.specs.declared.instruction.Form.TheVariants.{JAL}
 use Rattle.rv_flips.specs.Cells.{Tag, Sure, One, Two, Three, Cell, Has, SaysLess}
-use Rattle.rv_flips.proofs.MoveLemmas.{moves_then}
+use Rattle.rv_flips.specs.Moves.{Finishes}
+use Rattle.rv_flips.proofs.MoveLemmas.{moves_then, moves_finish}
 use Rattle.flip_words.specs.Placed.{WindowPoints, Excepted, IsPlaced}
 use Rattle.flip_words.specs.Words.{slot_address}
 use Rattle.flip_words.proofs.CarryLemmas.{carries_less}
 use Rattle.flip_words.proofs.LessLemmas.{says_again, knows_same}
-use Rattle.flip_frames.specs.Views.{Stage, View, Runs, version, view_cell, is_scratch, no_values, at_address}
+use Rattle.flip_frames.specs.Views.{Stage, View, IsView, Runs, version, view_cell, is_scratch, no_values, at_address}
 use Rattle.flip_frames.proofs.RunLaws.{runs_none, covered_view}
 use Rattle.flip_jumps.specs.Jumps.{target}
 use Rattle.flip_jumps.specs.Places.{Goes, StageSaysLess}
@@ -31,6 +32,11 @@ jumps_go words v p offset placed =
       moves = λ is. jump_moves words (Excepted WindowPoints words) (at_address v p) offset placed (covered_view words v p is);
       kept = λ is. is;
     }
+
+pub places_end : {words : List ℕ} {v w : View} {p q n m : ℕ} {out : List ℕ} {status : ℕ} → IsView v → Goes words v p n w q → (IsView w → Finishes words (Excepted WindowPoints words) (at_address w q) m out status) →
+    Finishes words (Excepted WindowPoints words) (at_address v p) (n + m) out status
+places_end {words = words} {v = v} {w = w} {p = p} {q = q} {n = n} {m = m} {out = out} {status = status} is go ends =
+    moves_finish words (Excepted WindowPoints words) (at_address v p) (at_address w q) n m out status (go.moves is) (ends (go.kept is))
 
 says_by : (b : Bool) (one two less lesser : Cell) → SaysLess one less → SaysLess two lesser → SaysLess (cond b one two) (cond b less lesser)
 says_by true one two less lesser h k = h

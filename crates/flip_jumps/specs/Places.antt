@@ -4,7 +4,7 @@ use Rattle.rv_inst.specs.declared.instruction.Form.{Form}
 use Rattle.rv_inst.specs.declared.instruction.Form.TheVariants.{JAL}
 use Rattle.rv_flips.specs.Cells.{Tag, Sure, Has, SaysLess}
 use Rattle.rv_flips.specs.Assertion.{ByteSaysLess}
-use Rattle.rv_flips.specs.Moves.{Moves}
+use Rattle.rv_flips.specs.Moves.{Moves, Finishes}
 use Rattle.flip_words.specs.Placed.{WindowPoints, Excepted, IsPlaced}
 use Rattle.flip_frames.specs.Views.{Stage, View, IsView, Runs, no_values, at_address}
 use Rattle.flip_jumps.specs.Jumps.{target}
@@ -27,6 +27,12 @@ SequencesGo = (words : List ℕ) (code : List Form) (v w : View) (p : ℕ) → I
 -- a jump goes to its target
 abbrev pub PlacesJump : Type 0
 PlacesJump = (words : List ℕ) (v : View) (p : ℕ) (offset : ℤ) → IsPlaced words p (JAL 0 offset ∷ []) → Goes words v p 1 v (target p offset)
+
+-- a run that goes to a place from where it ends, ends
+abbrev pub PlacesEnd : Type 0
+PlacesEnd = (words : List ℕ) (v w : View) (p q n m : ℕ) (out : List ℕ) (status : ℕ) → IsView v → Goes words v p n w q
+    → (IsView w → Finishes words (Excepted WindowPoints words) (at_address w q) m out status)
+    → Finishes words (Excepted WindowPoints words) (at_address v p) (n + m) out status
 
 -- a second stage, with its frame at the same place, says no more than a first one
 pub record StageSaysLess (more less : Stage) : Type 0 where

@@ -3,7 +3,7 @@
 #![tactic(auto)]
 
 ghost use Rattle.flip_jumps.specs.Jumps.{JumpsLink, JumpsGo, RegisterJumpsGo, BranchesGo};
-ghost use Rattle.flip_jumps.specs.Places.{PlacesJoin, SequencesGo, PlacesJump, StagesAreForgotten};
+ghost use Rattle.flip_jumps.specs.Places.{PlacesJoin, SequencesGo, PlacesJump, PlacesEnd, StagesAreForgotten};
 
 /// States that JAL goes to its target, and that its register then has the address of the next word for sure.
 pub fn jumps_link()
@@ -26,11 +26,13 @@ pub fn branches_go()
     ensures { BranchesGo }
 {}
 
-/// States that runs that go from place to place are joined; and that sequences and jumps go so.
+/// States that runs that go from place to place are joined; that sequences and jumps go so; and that a run that
+/// goes to a place from where it ends, ends.
 pub fn places_join()
     ensures join { PlacesJoin }
     ensures sequences { SequencesGo }
     ensures jumps { PlacesJump }
+    ensures ends { PlacesEnd }
 {}
 
 /// States that what is known of a stage may be forgotten at any place.

@@ -14,13 +14,13 @@ use Rattle.flip_frames.specs.Slots.{far_view}
 use Rattle.flip_frames.proofs.ViewLemmas.{view_cell-zero, view_cell-two, view_cell-three, view_cell-four, view_cell-file, sures_view, scratch_written, with_value-other, with_value-same}
 use Rattle.flip_frames.proofs.RunLaws.{runs_then, runs_less, pure_runs}
 use Rattle.flip_versions.specs.Operations.{resting, IsSlot, AreSlots, stored, defined, Leaves}
-use Rattle.flip_versions.proofs.VersionLaws.{store_turns}
+use Rattle.flip_versions.proofs.VersionLaws.{slot_after, store_turns}
 use Rattle.flip_guards.specs.Slots.{IsFramed}
 use Rattle.flip_guards.specs.Sources.{Source, InSlot, InRegister, Constant, bring, Gives}
 use Rattle.flip_guards.specs.Fetching.{Operand, IsGiven}
 use Rattle.flip_guards.proofs.SourceLaws.{source_carries}
 use Rattle.flip_copies.specs.Copies.{IsReadInTime}
-use Rattle.flip_copies.proofs.CopyLaws.{GivesTurn, slot_stored, gives_stored}
+use Rattle.flip_copies.proofs.CopyLaws.{GivesTurn, gives_stored}
 use Rattle.flip_operations.specs.Operations.{version_of_two, version_of_one, TwoOperandsRun, OneOperandRuns}
 
 -- ---- an operand comes into a scratch register, where values are in others
@@ -146,11 +146,11 @@ two_run words code g x y d o1 o2 o pure leaves gx gy slots tx ty =
     let g2 = stored g1 d.two Two o in
     runs_then (two_version words code g One Two x.one y.one d.one o1 o2 o pure leaves tt tt gx.one gy.one slots.one)
     (runs_then (two_version words code g1 Two Three x.two y.two d.two o1 o2 o pure leaves tt tt (gives_stored g d.one Two One o o1 x.two gx.two tx.two_one)
-    (gives_stored g d.one Two One o o2 y.two gy.two ty.two_one) (slot_stored g d.one One o d.two slots.two))
+    (gives_stored g d.one Two One o o2 y.two gy.two ty.two_one) (slot_after g d.two d.one One o slots.two))
     (two_version words code g2 Three One x.three y.three d.three o1 o2 o pure leaves tt tt
     (gives_stored g1 d.two Three Two o o1 x.three (gives_stored g d.one Three One o o1 x.three gx.three tx.three_one) tx.three_two)
     (gives_stored g1 d.two Three Two o o2 y.three (gives_stored g d.one Three One o o2 y.three gy.three ty.three_one) ty.three_two)
-    (slot_stored g1 d.two Two o d.three (slot_stored g d.one One o d.three slots.three))))
+    (slot_after g1 d.three d.two Two o (slot_after g d.three d.one One o slots.three))))
 
 pub one_runs : OneOperandRuns
 one_runs words code g x d o1 o pure leaves gx slots tx =
@@ -158,7 +158,7 @@ one_runs words code g x d o1 o pure leaves gx slots tx =
     let g2 = stored g1 d.two Two o in
     runs_then (one_version words code g One Two x.one d.one o1 o pure leaves tt tt gx.one slots.one)
     (runs_then (one_version words code g1 Two Three x.two d.two o1 o pure leaves tt tt (gives_stored g d.one Two One o o1 x.two gx.two tx.two_one)
-    (slot_stored g d.one One o d.two slots.two))
+    (slot_after g d.two d.one One o slots.two))
     (one_version words code g2 Three One x.three d.three o1 o pure leaves tt tt
     (gives_stored g1 d.two Three Two o o1 x.three (gives_stored g d.one Three One o o1 x.three gx.three tx.three_one) tx.three_two)
-    (slot_stored g1 d.two Two o d.three (slot_stored g d.one One o d.three slots.three))))
+    (slot_after g1 d.three d.two Two o (slot_after g d.three d.one One o slots.three))))
