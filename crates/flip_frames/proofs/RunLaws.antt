@@ -50,7 +50,7 @@ runs_none words v =
       kept = λ is. is;
     }
 
-version_uncoded : (t : Tag) → IsVersion t → IsUncoded t
+pub version_uncoded : (t : Tag) → IsVersion t → IsUncoded t
 version_uncoded One h = tt
 version_uncoded Two h = tt
 version_uncoded Three h = tt

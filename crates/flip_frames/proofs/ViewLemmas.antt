@@ -45,14 +45,14 @@ unfolding view_cell
 view_cell-file g t f f' q e =
     ap (λ (o : Option ℕ). cond (q == 0) (Has Sure 0) (cond (q == 2) (Has One (slot_address g.base)) (cond (q == 3) (Has Two (slot_address g.base)) (cond (q == 4) (Has Three (slot_address g.base)) (cond (is_scratch q) (version t o) (g.places q)))))) e
 
-abbrev NotSure : Cell → Type 0
+abbrev pub NotSure : Cell → Type 0
 NotSure cell = (w : ℕ) → cell ≡ Has Sure w → ⊥
 
 not_sure_by : (b : Bool) (one two : Cell) → NotSure one → NotSure two → NotSure (cond b one two)
 not_sure_by true one two h k = h
 not_sure_by false one two h k = k
 
-not_sure_version : (t : Tag) (o : Option ℕ) → IsVersion t → NotSure (version t o)
+pub not_sure_version : (t : Tag) (o : Option ℕ) → IsVersion t → NotSure (version t o)
 not_sure_version t None h w e = cc
 not_sure_version One (Some v) h w e = cc
 not_sure_version Two (Some v) h w e = cc

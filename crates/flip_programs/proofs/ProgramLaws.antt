@@ -53,10 +53,10 @@ start_cell g zero free ne2 ne3 ne4 = says_same (Has Sure 0) (view_cell g One no_
 start_cell g (suc q) free ne2 ne3 ne4 = says_same Free (view_cell g One no_values (suc q)) (sym (free_cell g (suc q) free (omega arith) ne2 ne3 ne4))
 
 -- the registers with three copies of the stack pointer
-abbrev with_copies : ℕ → ℕ → Cell
+abbrev pub with_copies : ℕ → ℕ → Cell
 with_copies sp = with_register (with_register (with_register start_cells 2 (Has One sp)) 3 (Has Two sp)) 4 (Has Three sp)
 
-copies_say : (g : Stage) (q : ℕ) → ((r : ℕ) → g.places r ≡ Free) → SaysLess (with_copies (slot_address g.base) q) (view_cell g One no_values q)
+pub copies_say : (g : Stage) (q : ℕ) → ((r : ℕ) → g.places r ≡ Free) → SaysLess (with_copies (slot_address g.base) q) (view_cell g One no_values q)
 copies_say g q free = by_four (q == 4) refl
   where
     sp : ℕ
@@ -152,7 +152,7 @@ pending_more words points damage s None all h = tt
 pending_more words points damage s (Some f) all h =
     record { undamaged = h.undamaged; fits = h.fits; outside = outside_more words points f.reg (pc_at f.at s) (λ p. all p f.reg) h.outside }
 
-finishes_more : (words : List ℕ) (points : List (ℕ × ℕ)) (c : Assertion) (n : ℕ) (out : List ℕ) (status : ℕ) → ((p r : ℕ) → IsWindowPoint words text_base p r → IsListed points p r) →
+pub finishes_more : (words : List ℕ) (points : List (ℕ × ℕ)) (c : Assertion) (n : ℕ) (out : List ℕ) (status : ℕ) → ((p r : ℕ) → IsWindowPoint words text_base p r → IsListed points p r) →
     Finishes words (Excepted WindowPoints words) c n out status → Finishes words (IsListed points) c n out status
 finishes_more words points c n out status all one s f good = one s f (record { damage = good.damage; meets = good.meets; pending = pending_more words points good.damage s f all good.pending })
 

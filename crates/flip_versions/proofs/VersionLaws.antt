@@ -30,7 +30,7 @@ unfolding with_value
 two_values o1 o2 q = two_tests (q == 6) (q == 29) (q == 28) (q == 5) o1 o2 (λ e. grind (arith, nat_tests)) (λ e. grind (arith, nat_tests))
 
 -- after a store the turn is the next version's
-store_turns : {words : List ℕ} {code : List Form} {v : View} (g : Stage) (t t' : Tag) (d : ℕ) (file : ℕ → Option ℕ) (o : Option ℕ) → IsVersion t' → IsSlot g d → file 5 ≡ o →
+pub store_turns : {words : List ℕ} {code : List Form} {v : View} (g : Stage) (t t' : Tag) (d : ℕ) (file : ℕ → Option ℕ) (o : Option ℕ) → IsVersion t' → IsSlot g d → file 5 ≡ o →
     Runs words code v (record { stage = g; tag = t; file = file }) → Runs words (code ++ any_store 5 d) v (resting (stored g d t o) t')
 store_turns {words = words} {code = code} {v = v} g t t' d file o turn slot is one =
     let w : View = record { stage = g; tag = t; file = file } in
@@ -64,14 +64,14 @@ other_slot : (g : Stage) (n d : ℕ) (cell : Cell) → n ≢ d → with_register
 other_slot g n d cell ne = let apart : g.base + n ≢ g.base + d = omega arith in with_register-other g.slots (g.base + d) (g.base + n) cell apart
 
 -- a slot of a stage is one of a stage after a store
-slot_after : (g : Stage) (n d : ℕ) (t : Tag) (o : Option ℕ) → IsSlot g n → IsSlot (stored g d t o) n
+pub slot_after : (g : Stage) (n d : ℕ) (t : Tag) (o : Option ℕ) → IsSlot g n → IsSlot (stored g d t o) n
 slot_after g n d t o s = record { within = s.within; small = s.small }
 
 -- the later versions of an operand, after the earlier ones of the result were stored
-second_holds : (g : Stage) (x d : Triple) (a o : Option ℕ) → HoldsVersions g x a → IsApart d x → (stored g d.one One o).slots (g.base + x.two) ≡ version Two a
+pub second_holds : (g : Stage) (x d : Triple) (a o : Option ℕ) → HoldsVersions g x a → IsApart d x → (stored g d.one One o).slots (g.base + x.two) ≡ version Two a
 second_holds g x d a o holds apart = other_slot g x.two d.one (version One o) apart.two_one ∙ holds.two
 
-third_holds : (g : Stage) (x d : Triple) (a o : Option ℕ) → HoldsVersions g x a → IsApart d x → (stored (stored g d.one One o) d.two Two o).slots (g.base + x.three) ≡ version Three a
+pub third_holds : (g : Stage) (x d : Triple) (a o : Option ℕ) → HoldsVersions g x a → IsApart d x → (stored (stored g d.one One o) d.two Two o).slots (g.base + x.three) ≡ version Three a
 third_holds g x d a o holds apart =
     other_slot (stored g d.one One o) x.three d.two (version Two o) apart.three_two ∙ other_slot g x.three d.one (version One o) apart.three_one ∙ holds.three
 

@@ -14,7 +14,7 @@ use Rattle.rv_flips.proofs.CellLemmas.{with_register-same, with_register-other}
 use Rattle.flip_words.specs.Memory.{without_bytes}
 
 -- lists of bytes
-small-append : (xs ys : List ℕ) → AreBytes xs → AreBytes ys → AreBytes (xs ++ ys)
+pub small-append : (xs ys : List ℕ) → AreBytes xs → AreBytes ys → AreBytes (xs ++ ys)
 small-append xs ys h k o = by_place (nat_lt o (length xs)) refl
   where
     by_place : (b : Bool) → nat_lt o (length xs) ≡ b → slice_index (xs ++ ys) o < 2 ^ 8
@@ -27,7 +27,7 @@ small-append xs ys h k o = by_place (nat_lt o (length xs)) refl
         let small : get_or ys (o - length xs) 0 < 2 ^ 8 = k (o - length xs) in
         omega arith
 
-small-take : (n : ℕ) (xs : List ℕ) → AreBytes xs → AreBytes (take n xs)
+pub small-take : (n : ℕ) (xs : List ℕ) → AreBytes xs → AreBytes (take n xs)
 small-take n xs h o = by_place (nat_lt o n) refl
   where
     by_place : (b : Bool) → nat_lt o n ≡ b → slice_index (take n xs) o < 2 ^ 8
@@ -40,7 +40,7 @@ small-take n xs h o = by_place (nat_lt o n) refl
         let past : get_or (take n xs) o 0 ≡ 0 = get_or_past (take n xs) o 0 (omega (arith, length-take n xs)) in
         omega arith
 
-small-drop : (n : ℕ) (xs : List ℕ) → AreBytes xs → AreBytes (drop n xs)
+pub small-drop : (n : ℕ) (xs : List ℕ) → AreBytes xs → AreBytes (drop n xs)
 small-drop n xs h o =
     let at : get_or (drop n xs) o 0 ≡ get_or xs (n + o) 0 = get_or-drop n xs o 0 in
     let small : get_or xs (n + o) 0 < 2 ^ 8 = h (n + o) in
@@ -50,7 +50,7 @@ byte_small : (i n : ℕ) → byte_at i n < 2 ^ 8
 byte_small zero n = omega arith
 byte_small (suc i) n = omega arith
 
-small-low_first : (i n x : ℕ) → AreBytes (bytes_low_first i n x)
+pub small-low_first : (i n x : ℕ) → AreBytes (bytes_low_first i n x)
 small-low_first i zero x o = omega arith
 small-low_first i (suc n) x zero = byte_small i x
 small-low_first i (suc n) x (suc o) = small-low_first (suc i) n x o

@@ -10,7 +10,7 @@ mod laws;
 mod passing;
 mod weights;
 
-pub use frames::frame;
+pub use frames::{frame, frame_in};
 pub use laws::{functions_have_frames, limits_have_one_answer};
 pub use passing::{Passed, first_passed, most_of};
 pub use weights::weight;

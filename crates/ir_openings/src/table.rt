@@ -68,6 +68,13 @@ impl Openings {
         }
     }
 
+    /// Returns which named type a name opens to, if it opens to one: the one at the end of its chain of names.
+    pub fn number_of(&self, id: NameId) -> Option<usize>
+        ensures { result ≡ opening_in self.now id.0 }
+    {
+        named_opening(&self.of_name, id)
+    }
+
     /// Returns the type that an index leads to from a type, by its number if it has one: that of an array's
     /// elements, or of the structure's field with this number.
     pub fn step<'a>(&self, m: &'a Module, ty: &'a Ty, number: Option<i128>) -> Option<&'a Ty>

@@ -1,4 +1,4 @@
-mod Laid
-mod Sized
+pub mod Laid
+pub mod Sized
 mod Modules
-mod Framed
+pub mod Framed

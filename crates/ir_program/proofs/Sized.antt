@@ -24,18 +24,18 @@ named_within zero ts name v l is laid = absurd laid
 named_within (suc depth) ts name v l is laid =
     (depth, subst (λ (z : TyShape). LaidBy (NameHasWithin depth ts) z l) (ap (λ (o : Option TyShape). unwrap_or o void) (sym laid.1 ∙ is)) laid.2)
 
-opened_has : (ts : List NamedTyShape) (t u : TyShape) (l : Layout) → HasLayout ts t l → Opens ts t u → HasLayout ts u l
+pub opened_has : (ts : List NamedTyShape) (t u : TyShape) (l : Layout) → HasLayout ts t l → Opens ts t u → HasLayout ts u l
 opened_has ts t u l has (is_array count element) = has
 opened_has ts t u l has (is_structure row packed) = has
 opened_has ts t u l has (is_name name v w is opens) = opened_has ts v w l (named_within has.0 ts name v l is has.1) opens
 
 -- the layouts of the parts of a type
-array_parts : (ts : List NamedTyShape) (count : ℕ) (element : TyShape) (l : Layout) → HasLayout ts (array count element) l
+pub array_parts : (ts : List NamedTyShape) (count : ℕ) (element : TyShape) (l : Layout) → HasLayout ts (array count element) l
     → (e : Layout) × HasLayout ts element e × (l ≡ array_layout count e)
 unfolding LaidBy
 array_parts ts count element l has = (has.1.0, (has.0, has.1.1), has.1.3)
 
-structure_parts : (ts : List NamedTyShape) (row : TyShapes) (packed : Bool) (l : Layout) → HasLayout ts (structure row packed) l
+pub structure_parts : (ts : List NamedTyShape) (row : TyShapes) (packed : Bool) (l : Layout) → HasLayout ts (structure row packed) l
     → (ls : List Layout) × HaveLayouts ts row ls × (l ≡ structure_layout packed ls)
 unfolding LaidBy
 structure_parts ts row packed l has = (has.1.0, (has.0, has.1.1), has.1.3)
@@ -97,7 +97,7 @@ text_fills m bytes t l has opens =
     length-map bytes Byte ∙ omega (arith, ap (λ (k : ℕ). length bytes * k) one, many)
 
 -- a field starts after what comes before it
-starts_after : (packed : Bool) (at : ℕ) (l : Layout) → at ≤ field_start packed at l
+pub starts_after : (packed : Bool) (at : ℕ) (l : Layout) → at ≤ field_start packed at l
 starts_after true at l = omega arith
 starts_after false at l = next_grows l.align at
 
@@ -143,7 +143,7 @@ mutual
   const_sized m (global name) t l has const = address_fills m (global name) t l const has
   const_sized m (address inbounds u base indices) t l has const = address_fills m (address inbounds u base indices) t l const.0 has
 
-  typed_sized : (m : ModuleShape) (v : TypedShape) (t : TyShape) (l : Layout) → HasLayout m.types t l → HasTyped m.types v t → length (typed_cells m v) ≡ l.size
+  pub typed_sized : (m : ModuleShape) (v : TypedShape) (t : TyShape) (l : Layout) → HasLayout m.types t l → HasTyped m.types v t → length (typed_cells m v) ≡ l.size
   typed_sized m (typed u c) t l has const = const_sized m c u l (subst (λ (z : TyShape). HasLayout m.types z l) (sym const.0) has)
       (subst (λ (z : TyShape). HasConst m.types c z) (sym const.0) const.1)
 
@@ -155,7 +155,7 @@ mutual
   elements_sized m (values v vs) (suc count) element e has have =
       omega (arith, length-append (typed_cells m v) (elements_cells m vs), typed_sized m v element e has have.0, elements_sized m vs count element e has have.1)
 
-  fields_sized : (m : ModuleShape) (packed : Bool) (at : ℕ) (vs : TypedShapes) (row : TyShapes) (ls : List Layout) → HaveLayouts m.types row ls
+  pub fields_sized : (m : ModuleShape) (packed : Bool) (at : ℕ) (vs : TypedShapes) (row : TyShapes) (ls : List Layout) → HaveLayouts m.types row ls
       → HaveFields m.types vs row → at + length (fields_cells m packed at vs) ≡ fields_end packed at ls
   fields_sized m packed at no_values no_types [] laid have = omega arith
   fields_sized m packed at no_values no_types (l ∷ ls) laid have = absurd laid.1

@@ -1,6 +1,5 @@
 -- Blocks that are kept: each by its number, where one is changed, and where one is made.
 use Rattle.std.proofs.Common.{◌≡◌, ◌≤◌, ◌<◌, ℕ, zero, suc, ◌+◌, true, false, Bool, nat_le, if◌then◌else◌, List, [], ◌∷◌, ◌++◌, length, set, get_or, slice_get, slice_range, take, drop, ◌-◌, Option, Some, None, arith, refl, ap, ap₂, sym, ◌∙◌, subst, le-leb}
-use Rattle.std.proofs.Math.ListN.{replicate}
 use Rattle.std.proofs.lemmas.Bool.{lt-leb}
 use Rattle.std.proofs.lemmas.Option.{slice_get-get_or}
 use Rattle.std.specs.Simd.Lanes.{chunk, put_chunk}
@@ -9,14 +8,14 @@ use Rattle.ir_model.specs.declared.Access.{Access}
 use Rattle.ir_model.specs.declared.Access.TheVariants.{I8, I16, I32, I64, Ptr}
 use Rattle.ir_model.specs.MemoryFacts.{Carries}
 use Rattle.ir_model.proofs.Stored.{cells_long}
-use Rattle.ir_model.specs.Values.{Pointer, Value, Unknown, Cell, MemoryBlock}
+use Rattle.ir_model.specs.Values.{Pointer, Value, Cell, MemoryBlock}
 use Rattle.ir_model.specs.Memory.{block_at, size_of, access_size, access_fault, cells_of}
 use Rattle.mem_cells.specs.declared.slots.Slot.{Slot}
 use Rattle.mem_cells.specs.declared.blocks.Block.{Block}
-use Rattle.mem_cells.specs.Slots.{KeepEach, KeepCells, KeepAddress, kept_slots, HasWords}
+use Rattle.mem_cells.specs.Slots.{KeepCells, KeepAddress, kept_slots, HasWords}
 use Rattle.mem_cells.specs.Shown.{KeepsBlock, KeepBlocks, slots_of}
 use Rattle.mem_cells.proofs.Kept.{same_length}
-use Rattle.mem_cells.proofs.Rows.{no_slot, kind_at, row_kinds, put_keeps}
+use Rattle.mem_cells.proofs.Rows.{put_keeps}
 use Rattle.mem_cells.proofs.SlotsKept.{value_kept}
 
 -- there are as many
@@ -51,25 +50,6 @@ added_kept [] (n ∷ memory) b m keep one = absurd keep
 added_kept (c ∷ blocks) [] b m keep one = absurd keep
 added_kept (c ∷ blocks) (n ∷ memory) b m keep one = (keep.0, added_kept blocks memory b m keep.1 one)
 
--- slots of poison
-poison_each : (n : ℕ) → KeepEach (replicate n no_slot) (replicate n Unknown)
-poison_each zero = tt
-poison_each (suc n) = (refl, poison_each n)
-
-poison_kinds : (n i : ℕ) → kind_at (replicate n no_slot) i ≡ 0
-poison_kinds zero i = refl
-poison_kinds (suc n) zero = refl
-poison_kinds (suc n) (suc i) = poison_kinds n i
-
-pub poison_cells : (n : ℕ) → KeepCells (replicate n no_slot) (replicate n Unknown)
-poison_cells n = record {
-  each = poison_each n;
-  whole = λ o row are. absurd (
-      let kind = row_kinds o (replicate n no_slot) row are o (omega arith) (omega arith) in
-      let none = poison_kinds n o in
-      omega (arith, kind, none));
-}
-
 -- why an access fails, if it does
 pub fault_dead : (access : Access) (q : Pointer) (memory : List MemoryBlock) → (block_at memory q.block).live ≡ false
     → access_fault access q memory ≡ Some why.Dead
@@ -88,6 +68,15 @@ no_fault access q memory live inside =
     ap₂ (λ (b t : Bool). if b then if t then None else Some why.OutOfBounds else Some why.Dead) live
     (le-leb (q.offset + access_size access) (size_of memory q.block) inside)
 
+pub live_without_fault : (access : Access) (q : Pointer) (memory : List MemoryBlock) → access_fault access q memory ≡ None
+    → (block_at memory q.block).live ≡ true
+live_without_fault access q memory none = by_cases (block_at memory q.block).live none
+  where
+    by_cases : (live : Bool) → (if live then if nat_le (q.offset + access_size access) (size_of memory q.block) then None else Some why.OutOfBounds else Some why.Dead) ≡ None
+        → live ≡ true
+    by_cases true none = refl
+    by_cases false none = cc
+
 -- the block that an index gives
 pub block_found : (blocks : List Block) (memory : List MemoryBlock) (k : ℕ) (b : Block) → KeepBlocks blocks memory → k < length blocks
     → b ≡ get_or blocks k b → KeepsBlock b (block_at memory k)
@@ -96,10 +85,6 @@ block_found blocks memory k b keep lt is = subst (λ (x : Block). KeepsBlock x (
 pub slots_counted : (blocks : List Block) (k : ℕ) (b : Block) → k < length blocks → b ≡ get_or blocks k b
     → length (slots_of (slice_get blocks k)) ≡ length b.slots.items
 slots_counted blocks k b lt is = ap (λ (o : Option Block). length (slots_of o)) (slice_get-get_or blocks k b lt ∙ ap Some (sym is))
-
-pub take_none : (n : ℕ) → take n (let none : List Slot = [] in none) ≡ []
-take_none zero = refl
-take_none (suc n) = refl
 
 -- the slots that an access reads
 pub slots_read : (start size o n : ℕ) (xs ys : List Slot) → start ≡ o → size ≡ n → ys ≡ xs → slice_range ys start (start + size) ≡ chunk o n xs

@@ -4,3 +4,4 @@ pub mod Rows
 pub mod Words
 pub mod SlotsKept
 pub mod BlocksKept
+pub mod Added

@@ -9,9 +9,11 @@ use Rattle.mem_cells.specs.declared.values.Value.TheVariants.{Integer, Address, 
 use Rattle.mem_cells.specs.declared.values.Fault.{Fault}
 use Rattle.mem_cells.specs.declared.values.Fault.TheVariants.{OutOfBounds, Dead}
 
+-- an address
 abbrev pub pointer_shape : Pointer → model.Pointer
 pointer_shape p = record { block = p.block; offset = p.offset }
 
+-- a value
 abbrev pub value_shape : Value → model.Value
 value_shape (Integer width number) = model.Integer width number
 value_shape (Address p) = model.Address (pointer_shape p)
@@ -22,6 +24,7 @@ abbrev pub why_of : Fault → Why
 why_of OutOfBounds = why.OutOfBounds
 why_of Dead = why.Dead
 
+-- what a load answers
 abbrev pub answer_of : Result Value Fault → model.Answer
 answer_of (Ok v) = model.Gives (value_shape v)
 answer_of (Err fault) = model.Fails (why_of fault)

@@ -41,6 +41,10 @@ KeepAddress slots cells = are_in_order 0 slots ≡ true → cells ≡ parts_from
 abbrev pub slot_in : (first step low high k : ℕ) → Slot
 slot_in first step low high k = record { kind = first + step * k; low = byte_at k low; high = byte_at k high }
 
+-- a slot that keeps a number
+abbrev pub byte_slot : ℕ → Slot
+byte_slot n = record { kind = 1; low = n; high = 0 }
+
 -- so many slots, from number k on
 abbrev pub slots_from : (ℕ → Slot) → (k count : ℕ) → List Slot
 slots_from slot k zero = []

@@ -17,7 +17,9 @@ use ir_model::Access;
 pub struct Block {
     /// Whether it may be accessed.
     pub live: bool,
-    /// What its bytes hold.
+    /// How many bytes it has.
+    pub size: usize,
+    /// What its bytes hold, as long as it may be accessed.
     pub slots: Vec<Slot>,
 }
 

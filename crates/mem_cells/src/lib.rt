@@ -5,11 +5,13 @@
 #![tactic(auto)]
 
 mod blocks;
+pub mod cells;
 mod laws;
 pub mod memory;
 mod slots;
 pub mod values;
 
+pub use cells::Cells;
 pub use laws::shown_blocks_are_counted;
 pub use memory::Mem;
 pub use values::{Fault, Pointer, Value};

@@ -1,13 +1,14 @@
 //! Memory: blocks that are made, end, and are loaded from and stored to.
-ghost use Rattle.std.specs.Prelude.{◌≡◌, ◌≤◌, ◌<◌, ◌+◌, ℕ, List, [], ◌∷◌, length, IfOk, OnOk, OnErr, MatchResult, None, Some};
-ghost use Rattle.ir_model.specs.Values.{MemoryBlock, null_block};
-ghost use Rattle.ir_model.specs.Memory.{access_size, access_fault, made, ended, load_at, stored};
+ghost use Rattle.std.specs.Prelude.{◌≡◌, ◌≤◌, ◌<◌, ◌+◌, ℕ, List, [], ◌∷◌, ◌++◌, length, IfOk, OnOk, OnErr, MatchResult, None, Some};
+ghost use Rattle.ir_model.specs.Values.{Cell, MemoryBlock, null_block, live_block};
+ghost use Rattle.ir_model.specs.Memory.{block_at, size_of, access_size, access_fault, made, ended, load_at, stored};
 ghost use Rattle.ir_model.specs.MemoryFacts.{Carries};
 ghost use Rattle.mem_cells.specs.Shapes.{pointer_shape, value_shape, why_of, answer_of};
-ghost use Rattle.mem_cells.specs.Shown.{Shows, block_count, slot_count};
+ghost use Rattle.mem_cells.specs.Shown.{Shows, HasCells, block_count, slot_count};
 
 use crate::blocks::{Block, size_of, slots_of, value_of};
-use crate::slots::{POISON_SLOT, put};
+use crate::cells::Cells;
+use crate::slots::put;
 use crate::values::{Fault, Pointer, Value};
 use ir_model::Access;
 use std::alloc::{AllocError, Global};
@@ -26,10 +27,11 @@ impl Mem {
     pub fn new(alloc: Global) -> Result<Mem, AllocError>
         ensures { IfOk result (λ mem. Shows (null_block ∷ []) mem) }
     {
-        let mut blocks = Vec::new(alloc);
-        let slots = Vec::new(alloc);
-        blocks.push(Block { live: true, slots })?;
-        Ok(Mem { blocks })
+        let mut mem = Mem {
+            blocks: Vec::new(alloc),
+        };
+        mem.add(Cells::new(alloc))?;
+        Ok(mem)
     }
 
     /// Makes a live block of so many bytes of poison, and returns its number: how many there were.
@@ -43,20 +45,58 @@ impl Mem {
         ensures err { (memory : List MemoryBlock) → Shows memory self.old →
             OnErr result (Shows memory self.new) }
     {
+        let mut cells = Cells::new(alloc);
+        cells.push_poison(size)?;
+        self.add(cells)
+    }
+
+    /// Makes a live block that has these bytes, and returns its number: how many there were.
+    ///
+    /// After want of memory nothing has changed.
+    pub fn add(&mut self, cells: Cells) -> Result<u64, AllocError>
+        ensures number { (memory : List MemoryBlock) → Shows memory self.old →
+            IfOk result (λ number. number ≡ length memory) }
+        ensures blocks { (memory : List MemoryBlock) (bytes : List Cell) → Shows memory self.old →
+            HasCells bytes cells → OnOk result (Shows (memory ++ live_block bytes ∷ []) self.new) }
+        ensures err { (memory : List MemoryBlock) → Shows memory self.old →
+            OnErr result (Shows memory self.new) }
+    {
         let number = self.blocks.len() as u64;
-        let mut slots = Vec::new(alloc);
-        slots.resize(size as usize, POISON_SLOT)?;
-        self.blocks.push(Block { live: true, slots })?;
+        self.blocks.push(Block {
+            live: true,
+            size: cells.slots.len(),
+            slots: cells.slots,
+        })?;
         Ok(number)
     }
 
-    /// Ends a block: it is dead from now on.
-    pub fn end(&mut self, block: u64)
+    /// Tells whether a block is live.
+    pub fn is_live(&self, block: u64) -> bool
+        requires { block < block_count self.now }
+        ensures { (memory : List MemoryBlock) → Shows memory self.now →
+            result ≡ (block_at memory block).live }
+    {
+        self.blocks[block as usize].live
+    }
+
+    /// Returns how many bytes a block has, live or dead.
+    pub fn size(&self, block: u64) -> u64
+        requires { block < block_count self.now }
+        ensures { (memory : List MemoryBlock) → Shows memory self.now →
+            result ≡ size_of memory block }
+    {
+        self.blocks[block as usize].size as u64
+    }
+
+    /// Ends a block: it is dead from now on, and its bytes take no room.
+    pub fn end(&mut self, alloc: Global, block: u64)
         requires { block < block_count self.old }
         ensures { (memory : List MemoryBlock) → Shows memory self.old →
             Shows (ended block memory) self.new }
     {
-        self.blocks[block as usize].live = false;
+        let block = &mut self.blocks[block as usize];
+        block.live = false;
+        block.slots = Vec::new(alloc);
     }
 
     /// Loads a value from an address.

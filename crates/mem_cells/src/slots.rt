@@ -2,7 +2,7 @@
 ghost use Rattle.std.specs.Prelude.{◌≡◌, ◌+◌, ◌≤◌, ◌==◌, length};
 ghost use Rattle.std.specs.List.{list_all};
 ghost use Rattle.std.specs.Simd.Lanes.{put_chunk};
-ghost use Rattle.mem_cells.specs.Slots.{are_in_order, word_of};
+ghost use Rattle.mem_cells.specs.Slots.{are_in_order, word_of, byte_slot};
 
 /// The kind of a slot whose byte is poison.
 pub const UNKNOWN: u8 = 0;
@@ -33,6 +33,17 @@ pub const POISON_SLOT: Slot = Slot {
     low: 0,
     high: 0,
 };
+
+/// Returns a slot whose byte is a number.
+pub fn byte_slot(number: u8) -> Slot
+    ensures { result ≡ byte_slot number }
+{
+    Slot {
+        kind: BYTE,
+        low: number,
+        high: 0,
+    }
+}
 
 /// Tells whether all slots keep numbers.
 pub fn are_bytes(slots: &[Slot]) -> bool

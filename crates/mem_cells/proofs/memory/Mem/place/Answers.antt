@@ -15,21 +15,23 @@ pub returns-then-start-size-clause-fault : goal.returns-then-start-size-clause-f
 returns-then-start-size-clause-fault c = λ memory shows.
     let b = c.index-block.result.now in
     let kept = block_found c.args.self.now.blocks.items memory c.args.at.block b shows c.requires c.index-block.ensures in
-    let many : length b.slots.items ≡ size_of memory c.args.at.block = same_length b.slots.items (block_at memory c.args.at.block).cells kept.cells.each in
+    let live = sym kept.live ∙ c.if-not-block.false in
+    let many : length b.slots.items ≡ size_of memory c.args.at.block = same_length b.slots.items (block_at memory c.args.at.block).cells (kept.cells live).each in
     let out : length b.slots.items < c.args.at.offset + access_size c.args.access =
     elim c.then-start-size.branch [
       | then-start-size-via-then-start-size w ↦ omega (arith, c.len-size.ensures, b.slots.ok.0)
       | then-start-size-via-else-start-size+then-size-start w ↦ omega (arith, c.len-size.ensures, b.slots.ok.0, w.size_of.ensures)
     ] in
-    fault_outside c.args.access (pointer_shape c.args.at) memory (sym kept.live ∙ c.if-not-block.false) (omega (arith, out, many))
+    fault_outside c.args.access (pointer_shape c.args.at) memory live (omega (arith, out, many))
 
 pub returns-clause-fault : goal.returns-clause-fault
 returns-clause-fault c = λ memory shows.
     let b = c.index-block.result.now in
     let kept = block_found c.args.self.now.blocks.items memory c.args.at.block b shows c.requires c.index-block.ensures in
-    let many : length b.slots.items ≡ size_of memory c.args.at.block = same_length b.slots.items (block_at memory c.args.at.block).cells kept.cells.each in
+    let live = sym kept.live ∙ c.if-not-block.false in
+    let many : length b.slots.items ≡ size_of memory c.args.at.block = same_length b.slots.items (block_at memory c.args.at.block).cells (kept.cells live).each in
     let inside : c.args.at.offset + access_size c.args.access ≤ length b.slots.items = omega (arith, c.len-size.ensures, b.slots.ok.0, c.size_of.ensures) in
-    no_fault c.args.access (pointer_shape c.args.at) memory (sym kept.live ∙ c.if-not-block.false) (omega (arith, inside, many))
+    no_fault c.args.access (pointer_shape c.args.at) memory live (omega (arith, inside, many))
 
 pub returns-clause-room : goal.returns-clause-room
 returns-clause-room c =

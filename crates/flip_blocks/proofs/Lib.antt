@@ -1,0 +1,3 @@
+pub mod BlockBytes
+pub mod StoreLaw
+pub mod LoadLaw

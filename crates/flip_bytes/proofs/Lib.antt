@@ -1,0 +1,4 @@
+pub mod DataBytes
+pub mod AccessWords
+pub mod CallWords
+pub mod ByteLines

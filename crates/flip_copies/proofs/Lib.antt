@@ -1,0 +1,3 @@
+pub mod CopyLaws
+pub mod EdgeLaws
+pub mod NarrowingLaws

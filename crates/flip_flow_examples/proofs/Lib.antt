@@ -1,0 +1,9 @@
+pub mod SlotFacts
+pub mod SwapWords
+pub mod SwapRun
+pub mod ChoiceWords
+pub mod ChoiceRun
+pub mod CountdownWords
+pub mod CountdownPlaces
+pub mod CountdownTurn
+pub mod CountdownRun

@@ -1,0 +1,4 @@
+pub mod Slots
+pub mod Swap
+pub mod Choice
+pub mod Countdown

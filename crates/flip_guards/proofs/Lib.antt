@@ -1,0 +1,7 @@
+pub mod FoundWindows
+pub mod Lines
+pub mod LineWords
+pub mod SlotWords
+pub mod SourceLaws
+pub mod FetchLaws
+pub mod GuardRuns

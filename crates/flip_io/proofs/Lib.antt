@@ -1,0 +1,4 @@
+pub mod CellLaws
+pub mod OutputLaw
+pub mod EndLaw
+pub mod InputLaw

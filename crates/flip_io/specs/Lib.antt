@@ -1,0 +1,4 @@
+pub mod ByteCell
+pub mod Output
+pub mod Input
+pub mod Ending

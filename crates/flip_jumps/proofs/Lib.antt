@@ -1,0 +1,2 @@
+pub mod JumpWords
+pub mod PlaceLaws

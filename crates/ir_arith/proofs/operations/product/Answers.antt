@@ -1,0 +1,11 @@
+use Rattle.std.proofs.Common.{◌*◌, sym, ◌∙◌}
+use Rattle.ir_tree.specs.declared.module.Bin.TheVariants.{Mul}
+use Rattle.ir_arith.proofs.Cuts.{cut_twice}
+use Rattle.ir_arith.proofs.Answered.{kept}
+use Rattle.ir_arith.proofs.operations.product.Goals as goal
+
+pub returns : goal.returns
+returns c =
+    let w = c.args.width in
+    kept Mul c.args.flags w c.args.a c.args.b c.cut.result (sym c.is_product_lost.ensures ∙ c.if-is_product_lost.false)
+    (c.cut.ensures ∙ cut_twice w (c.args.a * c.args.b) c.requires.bits.most)

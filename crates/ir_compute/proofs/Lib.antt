@@ -1,0 +1,3 @@
+pub mod OperandsFound
+pub mod Distances
+pub mod Walks

@@ -1,0 +1,5 @@
+use Rattle.op_words.proofs.Answered as answered
+use Rattle.op_words.proofs.comparison_words_compute.Goals as goal
+
+pub returns : goal.returns
+returns c = answered.comparisons

@@ -1,0 +1,5 @@
+pub mod Alike
+pub mod Starts
+pub mod Shaped
+pub mod Leads
+pub mod Walked

@@ -1,0 +1,9 @@
+mod Positions
+mod ValueKinds
+mod ConstantKinds
+mod InstructionKinds
+mod CalledKinds
+mod TypedBodies
+mod Bodies
+mod TypedModules
+mod WholeModules
