@@ -85,7 +85,7 @@ module _ (l : Layout) (address : ℕ → ℕ) (size : ℕ) (parts : Value → Li
   in_time (Fixed v) id there lt = record { two_one = tt; three_one = tt; three_two = tt }
 
 -- ---- what is known of a result may be forgotten
-version_less : (t : Tag) (o r : Option ℕ) → ((w : ℕ) → r ≡ Some w → o ≡ Some w) → SaysLess (version t o) (version t r)
+pub version_less : (t : Tag) (o r : Option ℕ) → ((w : ℕ) → r ≡ Some w → o ≡ Some w) → SaysLess (version t o) (version t r)
 version_less t o None right = says_free (version t o)
 version_less t o (Some w) right = subst (λ (q : Option ℕ). SaysLess (version t q) (Has t w)) (sym (right w refl)) (says_again (Has t w))
 
