@@ -41,13 +41,13 @@ use Rattle.done_operations.proofs.Serving.{Serve, ServeOne, binary_serves, compa
 
 -- ---- operands
 -- sources that give a value, if it has a word
-record Sourced (address : ℕ → ℕ) (g : Stage) (x : fetching.Operand) (v : Value) : Type 0 where
-  given : Option ℕ
-  gives : IsGiven g x given
-  right : (u : ℕ) → word_of address v ≡ Some u → given ≡ Some u
+pub record Sourced (address : ℕ → ℕ) (g : Stage) (x : fetching.Operand) (v : Value) : Type 0 where
+  pub given : Option ℕ
+  pub gives : IsGiven g x given
+  pub right : (u : ℕ) → word_of address v ≡ Some u → given ≡ Some u
 
 -- the slots of a value are in reach
-triple_slots : (g : Stage) (l : FrameLayout) (values id : ℕ) → IsGoodFrame l values → id < values → ((n : ℕ) → n < l.size → IsSlot g n) → AreSlots g (l.places id)
+pub triple_slots : (g : Stage) (l : FrameLayout) (values id : ℕ) → IsGoodFrame l values → id < values → ((n : ℕ) → n < l.size → IsSlot g n) → AreSlots g (l.places id)
 triple_slots g l values id good lt reach =
     let inside = good.inside id lt in
     record { one = reach (l.places id).one inside.one; two = reach (l.places id).two inside.two; three = reach (l.places id).three inside.three }
@@ -55,7 +55,7 @@ triple_slots g l values id good lt reach =
 module _ (l : Layout) (address : ℕ → ℕ) (size : ℕ) (parts : Value → List Part) (g : Stage) (s : State) (a : Activation) (rest : List Activation) (values : ℕ)
     (good : IsGoodFrame (l.frames a.function) values) (makes : MakeWords address parts) (kept : KeepsState l address size g s) (stack : s.stack ≡ a ∷ rest)
     (many : length a.values ≡ values) (reach : (n : ℕ) → n < (l.frames a.function).size → IsSlot g n) where
-  sourced : (x : Operand) → IsWithin (length a.values) x → Sourced address g (source_of (l.frames a.function) parts x) (value_of a.values x)
+  pub sourced : (x : Operand) → IsWithin (length a.values) x → Sourced address g (source_of (l.frames a.function) parts x) (value_of a.values x)
   sourced (Local id) there =
       let lay : FrameLayout = l.frames a.function in
       record {
@@ -67,7 +67,7 @@ module _ (l : Layout) (address : ℕ → ℕ) (size : ℕ) (parts : Value → Li
   sourced (Fixed v) there = record { given = made (parts v) None; gives = record { one = refl; two = refl; three = refl }; right = λ u is. makes v u is }
 
   -- no later version of an operand is read from where an earlier one of the result goes
-  in_time : (x : Operand) (id : ℕ) → IsWithin (length a.values) x → id < length a.values
+  pub in_time : (x : Operand) (id : ℕ) → IsWithin (length a.values) x → id < length a.values
       → IsReadInTime ((l.frames a.function).places id) (source_of (l.frames a.function) parts x)
   in_time (Local j) id there lt =
       let lay : FrameLayout = l.frames a.function in
@@ -85,11 +85,11 @@ module _ (l : Layout) (address : ℕ → ℕ) (size : ℕ) (parts : Value → Li
   in_time (Fixed v) id there lt = record { two_one = tt; three_one = tt; three_two = tt }
 
 -- ---- what is known of a result may be forgotten
-version_less : (t : Tag) (o r : Option ℕ) → ((w : ℕ) → r ≡ Some w → o ≡ Some w) → SaysLess (version t o) (version t r)
+pub version_less : (t : Tag) (o r : Option ℕ) → ((w : ℕ) → r ≡ Some w → o ≡ Some w) → SaysLess (version t o) (version t r)
 version_less t o None right = says_free (version t o)
 version_less t o (Some w) right = subst (λ (q : Option ℕ). SaysLess (version t q) (Has t w)) (sym (right w refl)) (says_again (Has t w))
 
-defined_less : (g : Stage) (d : Triple) (o r : Option ℕ) → ((w : ℕ) → r ≡ Some w → o ≡ Some w) → StageSaysLess (defined g d o) (defined g d r)
+pub defined_less : (g : Stage) (d : Triple) (o r : Option ℕ) → ((w : ℕ) → r ≡ Some w → o ≡ Some w) → StageSaysLess (defined g d o) (defined g d r)
 defined_less g d o r right =
     record {
       base = refl;
@@ -114,17 +114,17 @@ unfolding step act
 step_is p s operation a rest x y id stack next =
     ap (λ (st : List Activation). stepped p st s) stack ∙ ap (λ (i : Option Instruction). did p i a rest s) next
 
--- words that define a result, of which the value's word is known at least, do the step that gives the value
-defines : (p : Program) (l : Layout) (address : ℕ → ℕ) (size : ℕ) (words : List ℕ) (g : Stage) (s t : State) (a : Activation) (rest : List Activation) (code : List Form) (id from : ℕ)
+-- words that lead from one stage to another, and define a result there, of which the value's word is known at least, do the step that gives it
+pub defines : (p : Program) (l : Layout) (address : ℕ → ℕ) (size : ℕ) (words : List ℕ) (start g : Stage) (s t : State) (a : Activation) (rest : List Activation) (code : List Form) (id from : ℕ)
     (v : Value) (o : Option ℕ) → IsGoodLayout p l size → KeepsState l address size g s → s.stack ≡ a ∷ rest → HaveValues p (a ∷ rest) → id < length a.values
     → Continues (record s { stack = after (Some id) v a ∷ rest }) ≡ Continues t → ((w : ℕ) → word_of address v ≡ Some w → o ≡ Some w)
-    → Runs words code (resting g One) (resting (defined g ((l.frames a.function).places id) o) One) → IsPlaced words from code
-    → Reaches l address size words g t from (length code)
-defines p l address size words g s t a rest code id from v o good kept stack values there continues right run placed =
+    → Runs words code (resting start One) (resting (defined g ((l.frames a.function).places id) o) One) → IsPlaced words from code
+    → Reaches l address size words start t from (length code)
+defines p l address size words start g s t a rest code id from v o good kept stack values there continues right run placed =
     let d : Triple = (l.frames a.function).places id in
     let less : StageSaysLess (defined g d o) (defined g d (word_of address v)) = defined_less g d o (word_of address v) right in
-    let whole : Runs words code (resting g One) (resting (defined g d (word_of address v)) One) =
-    subst (λ (zs : List Form). Runs words zs (resting g One) (resting (defined g d (word_of address v)) One)) (append-nil code)
+    let whole : Runs words code (resting start One) (resting (defined g d (word_of address v)) One) =
+    subst (λ (zs : List Form). Runs words zs (resting start One) (resting (defined g d (word_of address v)) One)) (append-nil code)
     (runs_then run (stage_forgotten words (defined g d o) (defined g d (word_of address v)) One less (λ q w sure. none_sure q w (sym (kept.places q) ∙ sure)))) in
     let frames : KeepsStack l address g.slots g.base (a ∷ rest) = subst (KeepsStack l address g.slots g.base) stack kept.stack in
     let same : record s { stack = after (Some id) v a ∷ rest } ≡ t = continues_same (record s { stack = after (Some id) v a ∷ rest }) t continues in
@@ -172,7 +172,7 @@ two_done p l address size words parts g s t operation width code a rest x y id f
         (triple_slots g lay (function_at p a.function).values id frame (omega (arith, at.result_there)) reach)
         (in_time l address size parts g s a rest (function_at p a.function).values frame makes kept at.stack many reach x id at.first_there at.result_there)
         (in_time l address size parts g s a rest (function_at p a.function).values frame makes kept at.stack many reach y id at.second_there at.result_there) in
-        defines p l address size words g s t a rest (two_at lay parts code x y id) id from v o good kept at.stack at.values at.result_there continues
+        defines p l address size words g g s t a rest (two_at lay parts code x y id) id from v o good kept at.stack at.values at.result_there continues
         (λ w word. serves v w sx.given sy.given is word sx.right sy.right) run placed
 
 -- ---- operations on one operand
@@ -207,7 +207,7 @@ one_done p l address size words parts g s t operation code a rest x id from good
         one_runs words code g (source_of lay parts x) d sx.given o pure refl sx.gives
         (triple_slots g lay (function_at p a.function).values id frame (omega (arith, at.result_there)) reach)
         (in_time l address size parts g s a rest (function_at p a.function).values frame makes kept at.stack many reach x id at.there at.result_there) in
-        defines p l address size words g s t a rest (one_at lay parts code x id) id from v o good kept at.stack at.values at.result_there continues
+        defines p l address size words g g s t a rest (one_at lay parts code x id) id from v o good kept at.stack at.values at.result_there continues
         (λ w word. serves v w sx.given is word sx.right) run placed
 
 pub binaries_done : BinariesAreDone

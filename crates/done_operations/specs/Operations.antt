@@ -38,7 +38,7 @@ pub record AtBinary (p : Program) (s : State) (operation : Operation) (width : �
   pub result_there : id < length a.values
   pub values : HaveValues p (a ∷ rest)
 
--- the machine goes from the words of an instruction to the word behind them, with at most so many instructions, and keeps the next state there
+-- the machine goes from the words of an instruction to the word after them, with at most so many instructions, and keeps the next state there
 pub record Reaches (l : Layout) (address : ℕ → ℕ) (size : ℕ) (words : List ℕ) (g : Stage) (t : State) (from count : ℕ) : Type 0 where
   pub stage : Stage
   pub kept : KeepsState l address size stage t
@@ -48,7 +48,7 @@ pub record Reaches (l : Layout) (address : ℕ → ℕ) (size : ℕ) (words : Li
 abbrev pub two_at : FrameLayout → (Value → List Part) → List Form → Operand → Operand → ℕ → List Form
 two_at l parts code x y id = two_operands code (source_of l parts x) (source_of l parts y) (l.places id)
 
--- the words of a binary operation, wherever they stand, do its step: the next state is kept behind them
+-- the words of a binary operation, wherever they stand, do its step: the next state is kept after them
 abbrev pub BinariesAreDone : Type 0
 BinariesAreDone = (p : Program) (l : Layout) (address : ℕ → ℕ) (size : ℕ) (words : List ℕ) (parts : Value → List Part) (g : Stage) (s t : State)
     (operation : Bin) (flags : Flags) (width : ℕ) (a : Activation) (rest : List Activation) (x y : Operand) (id from : ℕ)

@@ -1,4 +1,4 @@
-//! Instructions that compute, as words: each does its step, and the machine keeps the next state behind it. Definitions
+//! Instructions that compute, as words: each does its step, and the machine keeps the next state after it. Definitions
 //! and laws; there is no code here.
 #![tactic(auto)]
 

@@ -17,7 +17,7 @@ use Rattle.kept_states.specs.Kept.{word_of, KeepsThree, KeepsStack, KeepsState}
 abbrev pub HaveValues : Program → List Activation → Type 0
 HaveValues p stack = AllByRecursion (λ (a : Activation). length a.values ≡ (function_at p a.function).values) stack
 
--- where a state is within the stack, the frame of the innermost activation begins behind the data's first two words, and each of its slots is in reach
+-- where a state is within the stack, the frame of the innermost activation begins after the data's first two words, and each of its slots is in reach
 abbrev pub FramesHaveRoom : Type 0
 FramesHaveRoom = (p : Program) (l : Layout) (address : ℕ → ℕ) (size : ℕ) (g : Stage) (s : State) (a : Activation) (rest : List Activation)
     → IsGoodLayout p l size → KeepsState l address size g s → s.stack ≡ a ∷ rest → IsWithinStack p s

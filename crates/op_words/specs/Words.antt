@@ -18,10 +18,11 @@ narrowed width = if width == 64 then [] else rv.SLLI 5 5 (pos (64 - width)) ∷ 
 abbrev pub cut : ℕ → (short whole : Form) → List Form
 cut width short whole = if width == 32 then short ∷ [] else whole ∷ narrowed width
 
--- a value and two values at the top of their registers, zeros below
+-- a value at the top of its register, with zeros below
 abbrev pub raised : ℕ → List Form
 raised width = if width == 64 then [] else rv.SLLI 5 5 (pos (64 - width)) ∷ []
 
+-- two values at the top of theirs
 abbrev pub both_raised : ℕ → List Form
 both_raised width = if width == 64 then [] else rv.SLLI 5 5 (pos (64 - width)) ∷ rv.SLLI 6 6 (pos (64 - width)) ∷ []
 
@@ -45,10 +46,11 @@ binary_words And width = rv.AND 5 5 6 ∷ []
 binary_words Or width = rv.OR 5 5 6 ∷ []
 binary_words Xor width = rv.XOR 5 5 6 ∷ []
 
--- 1 becomes all ones, the `i1` that is true, and 0 stays; and the other way round
+-- 1 becomes all ones, the `i1` that is true, and 0 stays
 abbrev pub as_truth : Form
 as_truth = rv.SUB 5 0 5
 
+-- 1 becomes 0, and 0 all ones
 abbrev pub as_opposite : Form
 as_opposite = rv.ADDI 5 5 (negsuc 0)
 

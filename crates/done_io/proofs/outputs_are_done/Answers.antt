@@ -1,0 +1,5 @@
+use Rattle.done_io.proofs.Bytes as bytes
+use Rattle.done_io.proofs.outputs_are_done.Goals as goal
+
+pub returns : goal.returns
+returns c = bytes.outputs
