@@ -1,7 +1,7 @@
 pub mod Lists
-pub mod Numbers
-pub mod Computed
+mod Numbers
+mod Computed
 pub mod Cells
-mod Steps
+pub mod Steps
 pub mod Runs
 pub mod Examples
