@@ -123,7 +123,7 @@ module _ (blocks : ℕ) where
       if_holds (IsOfKind blocks OfPointer) (inbounds && not (is_in_block memory q && is_in_block memory (moved q far))) Poison (Address (moved q far)) tt
       (record { exists = is.exists; distance = mod-lt (q.offset + far) (omega arith) })
 
-  walked_kind : (inbounds : Bool) (strides : List Stride) (memory : List MemoryBlock) (base : Value) (indices : List Value)
+  pub walked_kind : (inbounds : Bool) (strides : List Stride) (memory : List MemoryBlock) (base : Value) (indices : List Value)
       → IsOfKind blocks OfPointer base → IsOfKind blocks OfPointer (walked inbounds strides memory base indices)
   walked_kind inbounds [] memory base indices hb = hb
   walked_kind inbounds (x ∷ xs) memory (Integer w n) indices hb = tt

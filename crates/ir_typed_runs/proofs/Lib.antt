@@ -1,6 +1,6 @@
 pub mod Lists
-mod Numbers
-mod Computed
+pub mod Numbers
+pub mod Computed
 pub mod Cells
 pub mod Steps
 pub mod Runs
