@@ -1,3 +1,3 @@
-mod Owned
+pub mod Owned
 mod Placed
 mod Examples

@@ -2,6 +2,6 @@ pub mod Lists
 pub mod Numbers
 pub mod Computed
 pub mod Cells
-mod Steps
+pub mod Steps
 pub mod Runs
 pub mod Examples

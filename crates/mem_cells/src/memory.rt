@@ -91,8 +91,9 @@ impl Mem {
     /// Ends a block: it is dead from now on, and its bytes take no room.
     pub fn end(&mut self, alloc: Global, block: u64)
         requires { block < block_count self.old }
-        ensures { (memory : List MemoryBlock) → Shows memory self.old →
+        ensures ended { (memory : List MemoryBlock) → Shows memory self.old →
             Shows (ended block memory) self.new }
+        ensures count { block_count self.new ≡ block_count self.old }
     {
         let block = &mut self.blocks[block as usize];
         block.live = false;

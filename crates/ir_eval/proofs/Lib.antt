@@ -1,0 +1,4 @@
+pub mod Lists
+pub mod Stacks
+pub mod Fitting
+pub mod RunSoFar
