@@ -86,7 +86,8 @@ pub fn points(
 pub fn all_points(alloc: Global, words: &[u32], base: u64) -> Result<Vec<Point>, AllocError>
     requires { base + 4 * length words.now < 2 ^ 64 }
     ensures sorted { IfOk result (λ points. AreSorted points.items) }
-    ensures exact { IfOk result (λ points. (p : Point) → Contains points.items p ↔ IsWindowPoint words.now base p.pc p.reg) }
+    ensures exact { IfOk result (λ points. (p : Point) →
+        Contains points.items p ↔ IsWindowPoint words.now base p.pc p.reg) }
 {
     let windows = window_marks(alloc, words, base)?;
     marked_points(alloc, base, &windows)

@@ -1,0 +1,3 @@
+mod VotedRuns
+mod VoteWindows
+mod VotedVersions
