@@ -1,3 +1,4 @@
 mod VotedRuns
 mod VoteWindows
 mod VotedVersions
+mod VotedAccesses

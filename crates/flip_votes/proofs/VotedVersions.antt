@@ -168,13 +168,13 @@ pure_stands i pure =
     let written : writes i 2 ≡ false = target_none ((row (kind_of i)).format) (operands_of i) (scratch_apart o.rd parts.rd) in
     rw (parts.only, read, written) refl
 
-all_stand : (code : List Form) → list_all is_pure code ≡ true → list_all lets_stand code ≡ true
+pub all_stand : (code : List Form) → list_all is_pure code ≡ true → list_all lets_stand code ≡ true
 all_stand [] pure = refl
 all_stand (i ∷ is) pure =
     let both = and_parts (is_pure i) (list_all is_pure is) pure in
     and_from (lets_stand i) (list_all lets_stand is) (pure_stands i both.0) (all_stand is both.1)
 
-all_both : (xs ys : List Form) → list_all lets_stand xs ≡ true → list_all lets_stand ys ≡ true → list_all lets_stand (xs ++ ys) ≡ true
+pub all_both : (xs ys : List Form) → list_all lets_stand xs ≡ true → list_all lets_stand ys ≡ true → list_all lets_stand (xs ++ ys) ≡ true
 all_both [] ys h k = k
 all_both (x ∷ xs) ys h k =
     let both = and_parts (lets_stand x) (list_all lets_stand xs) h in
@@ -200,7 +200,7 @@ source_stands g t o d (InRegister r) scratch gives =
 source_stands g t o d (Constant parts) scratch gives = parts_stand d parts scratch
 
 -- what ends in an access does so after other words
-ends_after : (xs ys : List Form) → ends_in_access ys ≡ true → ends_in_access (xs ++ ys) ≡ true
+pub ends_after : (xs ys : List Form) → ends_in_access ys ≡ true → ends_in_access (xs ++ ys) ≡ true
 ends_after [] ys h = h
 ends_after (x ∷ []) [] h = absurd (cc)
 ends_after (x ∷ []) (y ∷ ys) h = h

@@ -4,6 +4,7 @@
 
 ghost use Rattle.flip_votes.specs.Votes.{VotedRunsJoin, VotedSlotsAreLoaded, VotedSlotsAreStored};
 ghost use Rattle.flip_votes.specs.Votes.{VotedComputingRuns, VotesServe};
+ghost use Rattle.flip_votes.specs.Accesses.{VersionsAreVoted};
 ghost use Rattle.flip_votes.specs.Versions.{TwoAreVoted, OneIsVoted, OperationsAreVoted};
 ghost use Rattle.flip_votes.specs.Versions.{AdditionsAreVoted, AdditionsAreShort};
 
@@ -26,6 +27,11 @@ pub fn voted_computing_runs()
 /// States that a vote serves all words after it up to an access, where they are at most 31 and leave x2 as it is.
 pub fn votes_serve()
     ensures { VotesServe }
+{}
+
+/// States that loads, words that compute and stores by one vote are a sequence of one version.
+pub fn versions_are_voted()
+    ensures { VersionsAreVoted }
 {}
 
 /// States that three versions of two operands make three versions of a result by three votes, for any code that
