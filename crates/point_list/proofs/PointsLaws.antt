@@ -230,3 +230,17 @@ pub chosen_exact : (words : List ℕ) (base : ℕ) (asked : List Point) (marks :
 chosen_exact words base asked marks ps len marked listed p =
     let exact = marked_exact words base asked marks len marked p in
     (λ c. exact.0 ((listed p).0 c), λ h. (listed p).1 (exact.1 h))
+
+-- a list of the marked points, where the marks are those of windows, is a list of the window points
+pub windows_exact : (words : List ℕ) (base : ℕ) (marks : List ℕ) (ps : List Point) → length marks ≡ length words →
+    ((k r : ℕ) → is_marked marks k r ≡ begun_before (said_by words) base (length words) k r) → ((p : Point) → Contains ps p ↔ IsMarkedPoint base marks p) →
+    (p : Point) → Contains ps p ↔ IsWindowPoint words base p.pc p.reg
+windows_exact words base marks ps len marked listed p = (λ c. there ((listed p).0 c), λ w. (listed p).1 (back (window_found words base p.pc p.reg w)))
+  where
+    there : IsMarkedPoint base marks p → IsWindowPoint words base p.pc p.reg
+    there (k, within, at, set) =
+        let P : ℕ → Type 0 = λ a. IsWindowPoint words base a p.reg in
+        subst P (sym at) (window_marked words base k p.reg (length words) (omega arith) (sym (marked k p.reg) ∙ set))
+
+    back : (k : ℕ) × (p.pc ≡ base + 4 * k) × (k < length words) × (begun_before (said_by words) base (length words) k p.reg ≡ true) → IsMarkedPoint base marks p
+    back (k, at, within, begun) = (k, omega arith, at, marked k p.reg ∙ begun)

@@ -1,4 +1,4 @@
-//! Which of the asked points are window points of a text.
+//! Which points are window points of a text: all of them, or the asked ones.
 
 ghost use Rattle.std.specs.Prelude.{◌≡◌, ◌↔◌, ◌+◌, ◌*◌, ◌<◌, ◌^◌, ◌==◌, ◌&&◌, ◌||◌, ℕ, length, map, IfOk, Contains};
 ghost use Rattle.std.specs.List.{list_any};
@@ -79,4 +79,16 @@ pub fn points(
     let window = window_marks(alloc, words, base)?;
     let marks = asked_marks(alloc, &window, base, asked)?;
     marked_points(alloc, base, &marks)
+}
+
+/// Returns the window points of a text whose first word is at address `base`, by address and then register, each
+/// once.
+pub fn all_points(alloc: Global, words: &[u32], base: u64) -> Result<Vec<Point>, AllocError>
+    requires { base + 4 * length words.now < 2 ^ 64 }
+    ensures sorted { IfOk result (λ points. AreSorted points.items) }
+    ensures exact { IfOk result (λ points. (p : Point) →
+        Contains points.items p ↔ IsWindowPoint words.now base p.pc p.reg) }
+{
+    let windows = window_marks(alloc, words, base)?;
+    marked_points(alloc, base, &windows)
 }

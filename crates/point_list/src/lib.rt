@@ -8,5 +8,5 @@ mod list;
 mod marks;
 mod walk;
 
-pub use choose::points;
+pub use choose::{all_points, points};
 pub use list::{Point, outside, points_text, text_determines_points};

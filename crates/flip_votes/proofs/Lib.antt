@@ -1,0 +1,4 @@
+mod VotedRuns
+mod VoteWindows
+mod VotedVersions
+mod VotedAccesses
