@@ -213,7 +213,7 @@ module _ (p : Program) (l : Layout) (address : ℕ → ℕ) (size : ℕ) (words 
             (seen_given l address size parts g s a rest inner (l.frames f).size (function_at p a.function).values (good.frames a.function) at.values.0 kept at.stack below fits.reach reach)
             own_slot 0 xs few at.there (numbered (given_of address parts a.values) xs);
         compatible = fit (l.frames f) (function_at p f).values frame caller parts 0 xs few;
-        link = (own_slot (l.frames f).link frame.link_inside).within;
+        link = (own_slot (l.frames f).link (good.links f at.function_there)).within;
         unused = kept.places 1;
       }
 
@@ -277,7 +277,7 @@ module _ (p : Program) (l : Layout) (address : ℕ → ℕ) (size : ℕ) (words 
       let frame : IsGoodFrame (l.frames f) (function_at p f).values = good.frames f in
       let many : length vs ≡ length xs = length-map xs (value_of a.values) in
       let above = callers_stay (cleared g) (l.frames f).size inner (l.frames f).link back args known below
-      (inside_all (l.frames f) (function_at p f).values frame (l.frames a.function) parts 0 xs few) frame.link_inside in
+      (inside_all (l.frames f) (function_at p f).values frame (l.frames a.function) parts 0 xs few) (good.links f at.function_there) in
       let stack : KeepsStack l address (after_call back).slots inner (entered p f vs ∷ a ∷ rest) =
       entries p l address g.slots (after_call back).slots g.base inner f vs a rest below (omega (arith, many, at.few))
       (subst (KeepsStack l address g.slots g.base) at.stack kept.stack)

@@ -1,9 +1,11 @@
--- Room for a frame, and what is known of stages in which less is known.
-use Rattle.std.proofs.Common.{◌≡◌, ◌≢◌, ◌≤◌, ◌<◌, ◌+◌, ◌-◌, ◌*◌, ◌/◌, ◌==◌, ℕ, Bool, true, false, List, [], ◌∷◌, length, Option, Some, None, refl, sym, ap, subst, ◌∙◌, arith}
-use Rattle.std.specs.Prelude.{nat_lt, if◌then◌else◌}
+-- Functions that are there, room for a frame, and what is known of stages in which less is known.
+use Rattle.std.proofs.Common.{◌≡◌, ◌≢◌, ◌≤◌, ◌<◌, ◌+◌, ◌-◌, ◌*◌, ◌/◌, ◌==◌, ℕ, Bool, true, false, List, [], ◌∷◌, length, Option, Some, None, inl, inr, refl, sym, ap, subst, ◌∙◌, arith}
+use Rattle.std.specs.Prelude.{nat_lt, if◌then◌else◌, slice_get, slice_index_or}
+use Rattle.std.proofs.lemmas.Bool.{cases_lt}
 use Rattle.std.proofs.lemmas.Bool.Decides.{nat_tests}
-use Rattle.ir_model.specs.Programs.{Program, function_at}
-use Rattle.ir_model.specs.States.{Activation, State}
+use Rattle.std.proofs.lemmas.List.{get_or_past}
+use Rattle.ir_model.specs.Programs.{Instruction, Function, Program, function_at, no_function, empty_block}
+use Rattle.ir_model.specs.States.{Activation, State, instruction_at}
 use Rattle.ir_model.specs.Runs.{frames}
 use Rattle.rv_flips.specs.Cells.{Tag, One, Two, Three, Cell, Free, Has, Sure, SaysLess}
 use Rattle.rv_flips.specs.Assertion.{KnownByte, AnyByte, ByteSaysLess, with_register}
@@ -22,6 +24,20 @@ use Rattle.kept_states.specs.Layouts.{Layout, IsGoodLayout}
 use Rattle.kept_states.specs.Kept.{KeepsState}
 use Rattle.kept_states.proofs.Stacks.{sizes, up_to_top, counted}
 use Rattle.done_flow.proofs.Edges.{byte_says}
+
+-- ---- functions of the program
+-- an activation that stands at an instruction is one of a function that is there
+pub function_there : (p : Program) (a : Activation) (x : Instruction) → instruction_at p a ≡ Some x → a.function < length p.functions
+function_there p a x is = elim (cases_lt a.function (length p.functions)) [
+  | inl lt ↦ lt
+  | inr le ↦
+      let none : instruction_at p a ≡ None =
+      ap (λ (f : Function). slice_get (slice_index_or f.blocks a.block empty_block).body a.position) (get_or_past p.functions a.function no_function le) in
+      absurd (never (sym none ∙ is))
+]
+  where
+    never : None ≡ Some x → ⊥
+    never e = cc
 
 -- ---- room
 -- the frame of a function more lies in the data below those of a state

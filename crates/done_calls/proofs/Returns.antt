@@ -43,7 +43,7 @@ use Rattle.ir_model.specs.Programs.{Local, Fixed}
 use Rattle.done_calls.specs.Calls.{from_below, seen_from_below}
 use Rattle.done_calls.specs.Returns.{IsGoodResult, AreGoodResults, return_at, returned, return_of, AtReturn, left_by, KeepsResult, GivesBack, FunctionsReturn}
 use Rattle.done_calls.specs.Returns.{taken_copies, after_at, IsResultOf, WaitsFor, ResultsAreDone, ReturnsAreDone}
-use Rattle.done_calls.proofs.Frames.{FitsBelow, frame_fits, undefined_says}
+use Rattle.done_calls.proofs.Frames.{function_there, FitsBelow, frame_fits, undefined_says}
 use Rattle.done_calls.proofs.Calls.{same_state}
 
 none_sure : (u : ℕ) → Free ≡ Has Sure u → ⊥
@@ -54,6 +54,9 @@ module _ (p : Program) (l : Layout) (address : ℕ → ℕ) (size : ℕ) (words 
     (given : Option Operand) (a b : Activation) (rest : List Activation) (from : ℕ) (good : IsGoodLayout p l size) (fine : AreGoodResults p l waiting)
     (makes : MakeWords address parts) (kept : KeepsState l address size g s) (at : AtReturn p s given a b rest) (within : IsWithinStack p s)
     (even : l.back b.function b.block b.position % 2 ≡ 0) where
+  is_there : a.function < length p.functions
+  is_there = function_there p a (return_of given) at.next
+
   abbrev r : Triple
   r = waiting a.function
 
@@ -68,7 +71,7 @@ module _ (p : Program) (l : Layout) (address : ℕ → ℕ) (size : ℕ) (words 
   gives v =
       let o : Option ℕ = word_of address v in
       let n : ℕ = (l.frames a.function).size in
-      let is : IsGoodResult (l.frames a.function) (function_at p a.function).values r = fine a.function in
+      let is : IsGoodResult (l.frames a.function) (function_at p a.function).values r = fine a.function is_there in
       record {
         value = held_three (defined g r o) r o (defined_hold g r o is.different);
         caller = record {
@@ -95,12 +98,11 @@ module _ (p : Program) (l : Layout) (address : ℕ → ℕ) (size : ℕ) (words 
       let h : Stage = defined g r o in
       let m : ℕ = (l.frames a.function).link in
       let back : ℕ = l.back b.function b.block b.position in
-      let frame : IsGoodFrame (l.frames a.function) (function_at p a.function).values = good.frames a.function in
       let holds : h.slots (h.base + m) ≡ Has Sure back =
-      others_stay g r o m (fine a.function).link_spared ∙ (callers l address g.slots g.base a b rest both).0 in
+      others_stay g r o m (fine a.function is_there).link_spared ∙ (callers l address g.slots g.base a b rest both).0 in
       let goes : Goes words (resting g One) from (length code + 4) (resting h One) back =
       goes_then (runs_go from (placed_front words from code (return_words m) placed) run)
-      (returns_go words h (from + 4 * length code) m back (placed_back words from code (return_words m) placed) (reach m frame.link_inside).within holds even (kept.places 1)) in
+      (returns_go words h (from + 4 * length code) m back (placed_back words from code (return_words m) placed) (reach m (good.links a.function is_there)).within holds even (kept.places 1)) in
       record {
         stage = h;
         kept = gives v;
@@ -116,7 +118,7 @@ module _ (p : Program) (l : Layout) (address : ℕ → ℕ) (size : ℕ) (words 
   -- a value of the function is read in time
   result_in_time : (x : Operand) → IsWithin (function_at p a.function).values x → IsReadInTime r (source_of (l.frames a.function) parts x)
   result_in_time (Local j) there =
-      let clear : IsClear r ((l.frames a.function).places j) = (fine a.function).apart j there in
+      let clear : IsClear r ((l.frames a.function).places j) = (fine a.function is_there).apart j there in
       record { two_one = clear.two.one; three_one = clear.three.one; three_two = clear.three.two }
   result_in_time (Fixed v) there = record { two_one = tt; three_one = tt; three_two = tt }
 
@@ -127,7 +129,7 @@ module _ (p : Program) (l : Layout) (address : ℕ → ℕ) (size : ℕ) (words 
       let lay : FrameLayout = l.frames a.function in
       let many : length a.values ≡ (function_at p a.function).values = at.values.0 in
       let sx = sourced l address size parts g s a (b ∷ rest) (function_at p a.function).values (good.frames a.function) makes kept at.stack many reach x there in
-      let is : IsGoodResult lay (function_at p a.function).values r = fine a.function in
+      let is : IsGoodResult lay (function_at p a.function).values r = fine a.function is_there in
       let cs : List Copy = record { source = source_of lay parts x; goal = r; id = 0 } ∷ [] in
       let slots : AreSlots g r = record { one = reach r.one is.inside.one; two = reach r.two is.inside.two; three = reach r.three is.inside.three } in
       let time : IsReadInTime r (source_of lay parts x) = result_in_time x (subst (λ (n : ℕ). IsWithin n x) many there) in
@@ -188,7 +190,7 @@ module _ (g : Stage) (r d : Triple) (n : ℕ) (o : Option ℕ) (inside : AreInFr
 -- the stage after the result was taken and the frame went up
 module _ (p : Program) (l : Layout) (address : ℕ → ℕ) (size : ℕ) (words : List ℕ) (waiting : ℕ → Triple) (g : Stage) (s t : State) (v : Value) (f : ℕ)
     (b : Activation) (rest : List Activation) (from : ℕ) (good : IsGoodLayout p l size) (fine : AreGoodResults p l waiting)
-    (kept : KeepsResult l address size waiting g s f v) (stack : s.stack ≡ b ∷ rest) (values : HaveValues p (b ∷ rest))
+    (known : f < length p.functions) (kept : KeepsResult l address size waiting g s f v) (stack : s.stack ≡ b ∷ rest) (values : HaveValues p (b ∷ rest))
     (fits : FitsBelow (g.base + (l.frames f).size) g.size (l.frames f).size) (within : IsWithinStack p s) where
   abbrev base : ℕ
   base = g.base + (l.frames f).size
@@ -246,8 +248,8 @@ module _ (p : Program) (l : Layout) (address : ℕ → ℕ) (size : ℕ) (words 
       let h : Stage = based_at (defined g (from_below n (d id)) o) base in
       let run : Runs words (after_at (l.frames b.function) (l.frames f) (waiting f) (Some id)) (resting g One) (resting h One) =
       results_are_taken words g n base cs (λ i. o)
-      (can_take g (waiting f) (d id) n o (fine f).inside different below_slot (goal_slots id lt) kept.value)
-      (fits_take g (waiting f) (d id) n o (fine f).inside different below_slot (goal_slots id lt) kept.value) fits.small refl high in
+      (can_take g (waiting f) (d id) n o (fine f known).inside different below_slot (goal_slots id lt) kept.value)
+      (fits_take g (waiting f) (d id) n o (fine f known).inside different below_slot (goal_slots id lt) kept.value) fits.small refl high in
       let at : (m : ℕ) → base + m ≡ g.base + (n + m) = λ m. omega arith in
       let same : (defined (based_at g base) (d id) o).slots ≡ (defined g (from_below n (d id)) o).slots =
       three_at g.slots (base + (d id).one) (base + (d id).two) (base + (d id).three) (g.base + (n + (d id).one)) (g.base + (n + (d id).two)) (g.base + (n + (d id).three))
@@ -278,7 +280,7 @@ takes p l address size words waiting g s t given result xs a b rest from good fi
     let here : 64 + ((function_at p a.function).frame + frames p (b ∷ rest)) ≤ 8388608 = subst (λ (st : List Activation). 64 + frames p st ≤ 8388608) at.stack within in
     let fits : FitsBelow (g.base + n) g.size n = frame_fits p l address size (based_at g (g.base + n)) u a.function good kept.caller here in
     let less : IsWithinStack p u = omega arith in
-    taken p l address size words waiting g u t (returned a.values given) a.function b rest from good fine kept refl at.values.1 fits less result waits.there
+    taken p l address size words waiting g u t (returned a.values given) a.function b rest from good fine (function_there p a (return_of given) at.next) kept refl at.values.1 fits less result waits.there
     (gone_on p s t given result xs a b rest at waits goes) placed
 
 -- ---- both

@@ -1,5 +1,5 @@
 -- A call, as words: the frame of the function is set up right below the caller's, with the arguments and the return address in it.
-use Rattle.std.specs.Prelude.{◌≡◌, ◌≤◌, ◌+◌, ◌*◌, ℕ, suc, ℤ, List, [], ◌∷◌, length, Option, Some}
+use Rattle.std.specs.Prelude.{◌≡◌, ◌≤◌, ◌<◌, ◌+◌, ◌*◌, ℕ, suc, ℤ, List, [], ◌∷◌, length, Option, Some}
 use Rattle.std.specs.List.{AllByRecursion}
 use Rattle.ir_model.specs.Values.{Value}
 use Rattle.ir_model.specs.Programs.{Operand, Call, Program, function_at}
@@ -46,10 +46,11 @@ call_at caller callee parts xs offset = call_words callee.size (argument_copies 
 abbrev pub called_at : FrameLayout → FrameLayout → (Value → List Part) → List Operand → ℤ → ℕ → ℕ
 called_at caller callee parts xs offset from = target (jump_of from callee.size (argument_copies caller callee parts xs)) offset
 
--- a state in which a call of a function comes next: the arguments are there, and are no more than the function has values
+-- a state in which a call of a function of the program comes next: the arguments are there, and are no more than the function has values
 pub record AtCall (p : Program) (s : State) (f : ℕ) (result : Option ℕ) (xs : List Operand) (a : Activation) (rest : List Activation) : Type 0 where
   pub stack : s.stack ≡ a ∷ rest
   pub next : instruction_at p a ≡ Some (record { result = result; action = Call f; operands = xs })
+  pub function_there : f < length p.functions
   pub there : AllByRecursion (IsWithin (length a.values)) xs
   pub few : length xs ≤ (function_at p f).values
   pub values : HaveValues p (a ∷ rest)

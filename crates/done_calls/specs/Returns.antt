@@ -35,7 +35,7 @@ pub record IsGoodResult (l : FrameLayout) (values : ℕ) (r : Triple) : Type 0 w
 
 -- each function of a program has such slots
 abbrev pub AreGoodResults : Program → Layout → (ℕ → Triple) → Type 0
-AreGoodResults p l results = (f : ℕ) → IsGoodResult (l.frames f) (function_at p f).values (results f)
+AreGoodResults p l results = (f : ℕ) → f < length p.functions → IsGoodResult (l.frames f) (function_at p f).values (results f)
 
 -- ---- in the function that returns
 -- a value that is returned, if there is one, is copied to where the result waits
