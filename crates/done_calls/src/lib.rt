@@ -2,6 +2,7 @@
 #![tactic(auto)]
 
 ghost use Rattle.done_calls.specs.Calls.{CallsAreDone};
+ghost use Rattle.done_calls.specs.Example.{ACallIsDone};
 ghost use Rattle.done_calls.specs.Returns.{FunctionsReturn, ResultsAreDone, ReturnsAreDone};
 
 /// Proves that the words of a call enter the function: it has its arguments, and the address to return to.
@@ -22,4 +23,10 @@ pub fn results_are_done()
 /// Proves that the words of a return and those after the call do the step of the return.
 pub fn returns_are_done()
     ensures { ReturnsAreDone }
+{}
+
+/// Proves of two functions whose words are written out that a call and its return are done: the premises of the
+/// laws can be met.
+pub fn a_call_is_done()
+    ensures { ACallIsDone }
 {}
