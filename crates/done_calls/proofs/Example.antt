@@ -1,8 +1,12 @@
 -- The laws apply to the example.
-use Rattle.std.proofs.Common.{◌≡◌, ◌≢◌, ◌≤◌, ◌<◌, ◌+◌, ◌*◌, ◌%◌, ℕ, zero, suc, List, [], ◌∷◌, ◌++◌, length, Option, Some, None, inl, inr, refl, sym, ap, subst, ◌∙◌, arith, append-nil, lit≤, slice_index_or}
-use Rattle.std.specs.Prelude.{pos}
+use Rattle.std.proofs.Common.{◌≡◌, ◌≢◌, ◌≤◌, ◌<◌, ◌+◌, ◌*◌, ◌/◌, ◌%◌, ◌^◌, ℕ, zero, suc, List, [], ◌∷◌, ◌++◌, length, Option, Some, None, inl, inr, refl, sym, ap, subst, ◌∙◌, arith, append-nil, lit≤, slice_index_or}
+use Rattle.std.specs.Prelude.{pos, unwrap_or}
+use Rattle.std.proofs.lemmas.Option.{same_Some}
 use Rattle.std.proofs.lemmas.Bool.{cases_lt}
-use Rattle.ir_model.specs.Values.{Value, Integer, Poison, null_block}
+use Rattle.ir_model.specs.Values.{Value, Integer, Address, Poison, null_block}
+use Rattle.ir_model.specs.Integers.{signed}
+use Rattle.ir_model.specs.Pointers.{extended}
+use Rattle.ir_typed_runs.proofs.Numbers.{bits_below}
 use Rattle.ir_model.specs.Programs.{Operand, Local, Program, function_at}
 use Rattle.ir_model.specs.States.{Activation, State, Continues, entered}
 use Rattle.ir_model.specs.Steps.{act, step}
@@ -17,7 +21,7 @@ use Rattle.flip_frames.specs.Fetching.{Triple}
 use Rattle.flip_versions.specs.Operations.{AreDifferent, IsOther}
 use Rattle.flip_versions.proofs.VersionLaws.{defined_hold, others_stay}
 use Rattle.flip_jumps.proofs.PlaceLaws.{goes_then}
-use Rattle.flip_guards.specs.Sources.{Part}
+use Rattle.flip_guards.specs.Sources.{Part, Small, Plus, Shifted, part_value, made}
 use Rattle.flip_copies.specs.Copies.{IsClear}
 use Rattle.flip_calls.specs.Calls.{entry_words}
 use Rattle.kept_states.specs.Layouts.{FrameLayout, AreInFrame, IsGoodFrame, IsGoodLayout}
@@ -27,7 +31,7 @@ use Rattle.done_operations.specs.Sources.{MakeWords}
 use Rattle.done_flow.specs.Edges.{Arrives}
 use Rattle.done_calls.specs.Calls.{call_at, AtCall}
 use Rattle.done_calls.specs.Returns.{IsGoodResult, AreGoodResults, return_at, after_at, AtReturn, WaitsFor}
-use Rattle.done_calls.specs.Example.{calling, giving, small, three_from, laid, frame_by, waiting, spread, small_code, small_words, main_at, in_main, blank, with_seven, ACallIsDone}
+use Rattle.done_calls.specs.Example.{calling, giving, small, three_from, laid, frame_by, waiting, spread, small_code, small_words, main_at, in_main, blank, with_seven, parts_by, parts_for, ACallIsDone}
 use Rattle.done_calls.proofs.Calls.{calls}
 use Rattle.done_calls.proofs.Returns.{returns_done}
 use Rattle.done_calls.proofs.ExampleWords.{are_words}
@@ -60,9 +64,6 @@ three_apart k id other ne = elim (cases_lt id other) [
   | inl lt ↦ three_clear (k + 3 * id) (k + 3 * other) (omega arith)
   | inr le ↦ clear_down (k + 3 * id) (k + 3 * other) (omega (arith, ne))
 ]
-
-spares_link : (n : ℕ) → IsOther (three_from (suc n)) 0
-spares_link n = record { one = λ e. omega arith; two = λ e. omega arith; three = λ e. omega arith }
 
 -- of at most two values
 good_frame : (size n : ℕ) → n ≤ 2 → ((id : ℕ) → id < n → 16 ≤ size) → IsGoodFrame (record laid { size = size }) n
@@ -136,6 +137,27 @@ kept address =
       out = refl;
     }
 
+-- ---- constants are made
+part_more : (xs ys : List Part) (o : Option ℕ) → made (xs ++ ys) o ≡ made ys (made xs o)
+part_more [] ys o = refl
+part_more (x ∷ xs) ys o = part_more xs ys (part_value x o)
+
+number_made : (n w : ℕ) → w < 2 ^ 64 → made (parts_by n w) None ≡ Some w
+number_made zero w lt = refl
+number_made (suc n) w lt =
+    part_more (parts_by n (w / 2048)) (Shifted (pos 11) ∷ Plus (pos (w % 2048)) ∷ []) None
+    ∙ ap (made (Shifted (pos 11) ∷ Plus (pos (w % 2048)) ∷ [])) (number_made n (w / 2048) (omega arith))
+    ∙ ap Some (let e : (w / 2048 * 2048 % 2 ^ 64 + w % 2048) % 2 ^ 64 ≡ w = omega arith in e)
+
+word_small : (address : ℕ → ℕ) (v : Value) (w : ℕ) → word_of address v ≡ Some w → w < 2 ^ 64
+word_small address (Integer width n) w is = subst (λ (u : ℕ). u < 2 ^ 64) (same_Some (extended width n) w is) (bits_below 64 (signed width n))
+word_small address (Address q) w is = subst (λ (u : ℕ). u < 2 ^ 64) (same_Some ((address q.block + q.offset) % 2 ^ 64) w is) (let lt : (address q.block + q.offset) % 2 ^ 64 < 2 ^ 64 = omega arith in lt)
+word_small address Poison w is = cc
+
+constants_made : (address : ℕ → ℕ) → MakeWords address (parts_for address)
+constants_made address v w is =
+    ap (λ (o : Option ℕ). made (parts_by 5 (unwrap_or o 0)) None) is ∙ number_made 5 w (word_small address v w is)
+
 -- ---- where the words stand
 module _ (parts : Value → List Part) where
   abbrev calling_words : List Form
@@ -191,7 +213,9 @@ waits : WaitsFor small (main_at 0 Poison) 1 (Some 1) (Local 0 ∷ [])
 waits = record { next = refl; there = lit≤ tt }
 
 pub a_call : ACallIsDone
-a_call address parts makes =
+a_call address =
+    let parts : Value → List Part = parts_for address in
+    let makes : MakeWords address (parts_for address) = constants_made address in
     let one : Arrives spread address 8388624 small_words with_seven called text_base 25 (text_base + 184) =
     calls small spread address 8388624 small_words parts with_seven (in_main 0 Poison) called 1 (Some 1) (Local 0 ∷ []) (main_at 0 Poison) [] text_base (pos 88) good makes
     (kept address) at_call called_state (lit≤ tt) (first parts) (third parts) refl in

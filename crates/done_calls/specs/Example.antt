@@ -1,5 +1,5 @@
 -- Two functions with their layout and their words: `main` has the value 7, and calls a function that gives back what it is given.
-use Rattle.std.specs.Prelude.{ℕ, zero, suc, pos, ◌+◌, ◌*◌, List, [], ◌∷◌, ◌++◌, Some, None}
+use Rattle.std.specs.Prelude.{ℕ, zero, suc, pos, ◌+◌, ◌*◌, ◌/◌, ◌%◌, List, [], ◌∷◌, ◌++◌, Some, None, unwrap_or}
 use Rattle.ir_model.specs.Values.{Value, Integer, Poison, null_block}
 use Rattle.ir_model.specs.Programs.{Local, Call, Return, Function, Program}
 use Rattle.ir_model.specs.States.{Activation, State}
@@ -10,10 +10,10 @@ use Rattle.rv_flips.specs.Assertion.{AnyByte}
 use Rattle.flip_frames.specs.Views.{Stage}
 use Rattle.flip_frames.specs.Fetching.{Triple}
 use Rattle.flip_versions.specs.Operations.{defined}
-use Rattle.flip_guards.specs.Sources.{Part}
+use Rattle.flip_guards.specs.Sources.{Part, Small, Plus, Shifted}
 use Rattle.flip_calls.specs.Calls.{entry_words}
 use Rattle.kept_states.specs.Layouts.{FrameLayout, Layout}
-use Rattle.done_operations.specs.Sources.{MakeWords}
+use Rattle.kept_states.specs.Kept.{word_of}
 use Rattle.done_flow.specs.Edges.{Arrives}
 use Rattle.done_calls.specs.Calls.{call_at}
 use Rattle.done_calls.specs.Returns.{return_at, after_at}
@@ -92,7 +92,15 @@ blank = record { base = 1048562; places = λ r. Free; slots = λ k. Free; bytes 
 abbrev pub with_seven : Stage
 with_seven = defined blank (three_from 1) (Some 7)
 
+-- words that make a number of 64 bits, eleven bits at a time, the highest first
+abbrev pub parts_by : ℕ → ℕ → List Part
+parts_by zero w = Small (pos w) ∷ []
+parts_by (suc n) w = parts_by n (w / 2048) ++ (Shifted (pos 11) ∷ Plus (pos (w % 2048)) ∷ [])
+
+-- those of a constant, by the addresses of the blocks of globals
+abbrev pub parts_for : (ℕ → ℕ) → Value → List Part
+parts_for address v = parts_by 5 (unwrap_or (word_of address v) 0)
+
 -- the machine comes from the call to what follows in `main`, where the result is 7
 abbrev pub ACallIsDone : Type 0
-ACallIsDone = (address : ℕ → ℕ) (parts : Value → List Part) → MakeWords address parts
-    → Arrives spread address 8388624 small_words with_seven (in_main 1 (Integer 32 7)) text_base 68 (text_base + 172)
+ACallIsDone = (address : ℕ → ℕ) → Arrives spread address 8388624 small_words with_seven (in_main 1 (Integer 32 7)) text_base 68 (text_base + 172)
