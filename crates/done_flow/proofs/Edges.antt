@@ -61,7 +61,7 @@ byte_either : (test : Bool) (x y : KnownByte) → ByteSaysLess x y → ByteSaysL
 byte_either true x y says = λ v holds. holds
 byte_either false x y says = says
 
-byte_says : (more less : ℕ → KnownByte) (k q : ℕ) → ByteSaysLess (more q) (less q) → ByteSaysLess (without_bytes more k q) (without_bytes less k q)
+pub byte_says : (more less : ℕ → KnownByte) (k q : ℕ) → ByteSaysLess (more q) (less q) → ByteSaysLess (without_bytes more k q) (without_bytes less k q)
 unfolding without_bytes
 byte_says more less k q says = byte_either (q / 8 == k) (more q) (less q) says
 
@@ -100,17 +100,17 @@ stage_again g =
     }
 
 -- values are known at least as well as others
-abbrev KnowMore : (ℕ → Option ℕ) → (ℕ → Option ℕ) → Type 0
+abbrev pub KnowMore : (ℕ → Option ℕ) → (ℕ → Option ℕ) → Type 0
 KnowMore values fewer = (id w : ℕ) → fewer id ≡ Some w → values id ≡ Some w
 
-copied_says : (g h : Stage) (cs : List Copy) (values fewer : ℕ → Option ℕ) → StageSaysLess g h → KnowMore values fewer → StageSaysLess (copied g cs values) (copied h cs fewer)
+pub copied_says : (g h : Stage) (cs : List Copy) (values fewer : ℕ → Option ℕ) → StageSaysLess g h → KnowMore values fewer → StageSaysLess (copied g cs values) (copied h cs fewer)
 copied_says g h [] values fewer less more = less
 copied_says g h (c ∷ cs) values fewer less more =
     copied_says (defined g c.goal (values c.id)) (defined h c.goal (fewer c.id)) cs values fewer (defined_says g h c.goal (values c.id) (fewer c.id) less (more c.id)) more
 
 -- ---- the values that phis take
 -- what a source gives for an operand: the word of a value, or what a constant's words make
-abbrev given_of : (ℕ → ℕ) → (Value → List Part) → List Value → Operand → Option ℕ
+abbrev pub given_of : (ℕ → ℕ) → (Value → List Part) → List Value → Operand → Option ℕ
 given_of address parts values (Local id) = word_of address (value_of values (Local id))
 given_of address parts values (Fixed v) = made (parts v) None
 
@@ -290,7 +290,7 @@ module _ (address : ℕ → ℕ) (parts : Value → List Part) (l : FrameLayout)
   )
 
 -- ---- the edge
-right_of : (address : ℕ → ℕ) (parts : Value → List Part) (values : List Value) → MakeWords address parts → (x : Operand) (w : ℕ)
+pub right_of : (address : ℕ → ℕ) (parts : Value → List Part) (values : List Value) → MakeWords address parts → (x : Operand) (w : ℕ)
     → word_of address (value_of values x) ≡ Some w → given_of address parts values x ≡ Some w
 right_of address parts values makes (Local id) w is = is
 right_of address parts values makes (Fixed v) w is = makes v w is

@@ -19,18 +19,18 @@ use Rattle.kept_states.specs.Laws.{HaveValues, FramesHaveRoom, ValuesAreHeld, Re
 
 -- ---- room
 -- how many slots the frames of a stack have
-abbrev sizes : Layout → List Activation → ℕ
+abbrev pub sizes : Layout → List Activation → ℕ
 sizes l [] = 0
 sizes l (a ∷ rest) = (l.frames a.function).size + sizes l rest
 
-up_to_top : (l : Layout) (address : ℕ → ℕ) (slots : ℕ → Cell) (base : ℕ) (stack : List Activation) → KeepsStack l address slots base stack
+pub up_to_top : (l : Layout) (address : ℕ → ℕ) (slots : ℕ → Cell) (base : ℕ) (stack : List Activation) → KeepsStack l address slots base stack
     → base + sizes l stack ≡ l.top
 up_to_top l address slots base [] kept = (let e : base + 0 ≡ base = omega arith in e) ∙ kept
 up_to_top l address slots base (a ∷ rest) kept =
     let size : ℕ = (l.frames a.function).size in
     (let e : base + (size + sizes l rest) ≡ base + size + sizes l rest = omega arith in e) ∙ up_to_top l address slots (base + size) rest kept.2
 
-counted : (p : Program) (l : Layout) (size : ℕ) → IsGoodLayout p l size → (stack : List Activation) → 8 * sizes l stack ≤ frames p stack
+pub counted : (p : Program) (l : Layout) (size : ℕ) → IsGoodLayout p l size → (stack : List Activation) → 8 * sizes l stack ≤ frames p stack
 counted p l size good [] = omega arith
 counted p l size good (a ∷ rest) = omega (arith, good.counted a.function, counted p l size good rest)
 
@@ -99,7 +99,7 @@ free p l address before later base a rest many above used kept =
 
 -- ---- a value that is defined
 -- slots past a frame are none of those in it
-past : (size : ℕ) (d : Triple) (n : ℕ) → AreInFrame size d → size ≤ n → IsOther d n
+pub past : (size : ℕ) (d : Triple) (n : ℕ) → AreInFrame size d → size ≤ n → IsOther d n
 past size d n inside le =
     record { one = omega (arith, inside.one); two = omega (arith, inside.two); three = omega (arith, inside.three) }
 

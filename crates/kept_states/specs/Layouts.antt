@@ -28,7 +28,7 @@ pub record AreInFrame (size : ℕ) (x : Triple) : Type 0 where
   pub two : x.two < size
   pub three : x.three < size
 
--- a frame has slots of their own for each of so many values, for each cell, and for the return address
+-- a frame has slots of their own for each of so many values and for each cell, and the return address has another one
 pub record IsGoodFrame (l : FrameLayout) (values : ℕ) : Type 0 where
   pub inside : (id : ℕ) → id < values → AreInFrame l.size (l.places id)
   pub different : (id : ℕ) → id < values → AreDifferent (l.places id)
@@ -37,14 +37,14 @@ pub record IsGoodFrame (l : FrameLayout) (values : ℕ) : Type 0 where
   pub cells_different : (id : ℕ) → id < values → AreDifferent (l.cells id)
   pub cells_apart : (id other : ℕ) → id < values → other < values → id ≢ other → IsClear (l.cells id) (l.cells other)
   pub cells_beside : (id other : ℕ) → id < values → other < values → IsClear (l.cells id) (l.places other)
-  pub link_inside : l.link < l.size
   pub link_spared : (id : ℕ) → id < values → IsOther (l.places id) l.link
   pub link_beside : (id : ℕ) → id < values → IsOther (l.cells id) l.link
 
--- a layout is good for a program: its frames are, they are no larger than what an activation is counted as, and the stack of 8,388,608 bytes lies in the
--- data above their first two words
+-- a layout is good for a program: its frames are, that of each function of the program has a slot for the return address in it, they are no larger than
+-- what an activation is counted as, and the stack of 8,388,608 bytes lies in the data above their first two words
 pub record IsGoodLayout (p : Program) (l : Layout) (size : ℕ) : Type 0 where
   pub frames : (f : ℕ) → IsGoodFrame (l.frames f) (function_at p f).values
+  pub links : (f : ℕ) → f < length p.functions → (l.frames f).link < (l.frames f).size
   pub counted : (f : ℕ) → 8 * (l.frames f).size ≤ (function_at p f).frame
   pub room : 16 + 8388608 ≤ 8 * l.top
   pub within : 8 * l.top ≤ size
