@@ -1,12 +1,8 @@
 -- The laws apply to the example.
 use Rattle.std.proofs.Common.{◌≡◌, ◌≢◌, ◌≤◌, ◌<◌, ◌+◌, ◌*◌, ◌/◌, ◌%◌, ◌^◌, ℕ, zero, suc, List, [], ◌∷◌, ◌++◌, Option, Some, None, inl, inr, refl, sym, ap, subst, ◌∙◌, arith, append-nil, lit≤, slice_index_or}
 use Rattle.std.specs.Prelude.{pos, unwrap_or}
-use Rattle.std.proofs.lemmas.Option.{same_Some}
 use Rattle.std.proofs.lemmas.Bool.{cases_lt}
 use Rattle.ir_model.specs.Values.{Value, Integer, Address, Poison}
-use Rattle.ir_model.specs.Integers.{signed}
-use Rattle.ir_model.specs.Pointers.{extended}
-use Rattle.ir_typed_runs.proofs.Numbers.{bits_below}
 use Rattle.ir_model.specs.Programs.{Local, function_at}
 use Rattle.ir_model.specs.States.{State, Continues, entered}
 use Rattle.ir_model.specs.Steps.{act, step}
@@ -25,6 +21,7 @@ use Rattle.kept_states.specs.Layouts.{AreInFrame, IsGoodFrame, IsGoodLayout}
 use Rattle.kept_states.specs.Kept.{word_of, KeepsThree, KeepsState}
 use Rattle.kept_states.proofs.Stacks.{held_three}
 use Rattle.done_operations.specs.Sources.{MakeWords}
+use Rattle.done_operations.proofs.Serving.{word_small}
 use Rattle.done_flow.specs.Edges.{Arrives}
 use Rattle.done_calls.specs.Calls.{call_at, AtCall}
 use Rattle.done_calls.specs.Returns.{IsGoodResult, AreGoodResults, return_at, after_at, AtReturn, WaitsFor}
@@ -145,11 +142,6 @@ number_made (suc n) w lt =
     part_more (parts_by n (w / 2048)) (Shifted (pos 11) ∷ Plus (pos (w % 2048)) ∷ []) None
     ∙ ap (made (Shifted (pos 11) ∷ Plus (pos (w % 2048)) ∷ [])) (number_made n (w / 2048) (omega arith))
     ∙ ap Some (let e : (w / 2048 * 2048 % 2 ^ 64 + w % 2048) % 2 ^ 64 ≡ w = omega arith in e)
-
-word_small : (address : ℕ → ℕ) (v : Value) (w : ℕ) → word_of address v ≡ Some w → w < 2 ^ 64
-word_small address (Integer width n) w is = subst (λ (u : ℕ). u < 2 ^ 64) (same_Some (extended width n) w is) (bits_below 64 (signed width n))
-word_small address (Address q) w is = subst (λ (u : ℕ). u < 2 ^ 64) (same_Some ((address q.block + q.offset) % 2 ^ 64) w is) (let lt : (address q.block + q.offset) % 2 ^ 64 < 2 ^ 64 = omega arith in lt)
-word_small address Poison w is = cc
 
 constants_made : (address : ℕ → ℕ) → MakeWords address (parts_for address)
 constants_made address v w is =
