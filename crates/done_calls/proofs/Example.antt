@@ -1,8 +1,8 @@
 -- The laws apply to the example.
-use Rattle.std.proofs.Common.{◌≡◌, ◌≢◌, ◌≤◌, ◌<◌, ◌+◌, ◌*◌, ◌/◌, ◌%◌, ◌^◌, ℕ, zero, suc, List, [], ◌∷◌, ◌++◌, Option, Some, None, inl, inr, refl, sym, ap, subst, ◌∙◌, arith, append-nil, lit≤, slice_index_or}
+use Rattle.std.proofs.Common.{◌≡◌, ◌≢◌, ◌≤◌, ◌<◌, ◌+◌, ◌*◌, ◌/◌, ◌%◌, ◌^◌, ℕ, zero, suc, List, [], ◌∷◌, ◌++◌, Option, Some, None, inl, inr, refl, sym, ap, ◌∙◌, arith, append-nil, lit≤, slice_index_or}
 use Rattle.std.specs.Prelude.{pos, unwrap_or}
 use Rattle.std.proofs.lemmas.Bool.{cases_lt}
-use Rattle.ir_model.specs.Values.{Value, Integer, Address, Poison}
+use Rattle.ir_model.specs.Values.{Value, Integer, Poison}
 use Rattle.ir_model.specs.Programs.{Local, function_at}
 use Rattle.ir_model.specs.States.{State, Continues, entered}
 use Rattle.ir_model.specs.Steps.{act, step}

@@ -1,6 +1,6 @@
 -- Two functions with their layout and their words: `main` has the value 7, and calls a function that gives back what it is given.
 use Rattle.std.specs.Prelude.{ℕ, zero, suc, pos, ◌+◌, ◌*◌, ◌/◌, ◌%◌, List, [], ◌∷◌, ◌++◌, Some, None, unwrap_or}
-use Rattle.ir_model.specs.Values.{Value, Integer, Poison, null_block}
+use Rattle.ir_model.specs.Values.{Value, Integer, null_block}
 use Rattle.ir_model.specs.Programs.{Local, Call, Return, Function, Program}
 use Rattle.ir_model.specs.States.{Activation, State}
 use Rattle.rv_inst.specs.declared.instruction.Form.{Form}

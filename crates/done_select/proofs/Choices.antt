@@ -1,6 +1,5 @@
 -- A choice between operands of any kind, in three versions.
-use Rattle.std.proofs.Common.{◌≡◌, ℕ, ◌+◌, ◌<◌, ◌^◌, List, ◌++◌, Option, None, Some, refl, ap, ◌∙◌, arith}
-use Rattle.rv_inst.specs.declared.instruction.Form.{Form}
+use Rattle.std.proofs.Common.{◌≡◌, ℕ, ◌<◌, ◌^◌, List, Option, Some, refl, ap, ◌∙◌, arith}
 use Rattle.rv_flips.specs.Cells.{Tag, One, Two, Three}
 use Rattle.flip_frames.specs.Views.{Stage, View, IsVersion, Runs, with_scratch}
 use Rattle.flip_frames.specs.Computing.{effect_of}

@@ -1,32 +1,28 @@
 -- A choice does its step.
-use Rattle.std.proofs.Common.{◌≡◌, ◌≤◌, ◌<◌, ◌+◌, ◌*◌, ◌-◌, ◌^◌, ◌==◌, ℕ, zero, suc, Bool, true, false, List, [], ◌∷◌, ◌++◌, length, Option, Some, None, refl, sym, ap, subst, ◌∙◌, arith}
+use Rattle.std.proofs.Common.{◌≡◌, ◌<◌, ◌^◌, ◌==◌, ℕ, zero, suc, List, length, Option, Some, None, refl, sym, ap, ◌∙◌, arith}
 use Rattle.std.specs.Prelude.{if◌then◌else◌}
 use Rattle.ir_model.specs.Values.{Value, Integer, Address, Poison}
 use Rattle.ir_model.specs.Pointers.{extended}
-use Rattle.ir_model.specs.Operations.{Select, chosen, compute}
+use Rattle.ir_model.specs.Operations.{chosen, compute}
 use Rattle.ir_model.specs.Programs.{Operand, Instruction, Program, function_at}
-use Rattle.ir_model.specs.States.{Activation, State, StepResult, Continues, value_of, instruction_at, after, goes_on}
+use Rattle.ir_model.specs.States.{Activation, State, value_of, after, goes_on}
 use Rattle.ir_model.specs.Steps.{act, did, stepped, step}
-use Rattle.ir_model.specs.Runs.{IsWithinStack}
 use Rattle.ir_typed_runs.specs.Kinds.{OfWidth, IsOfKind}
 use Rattle.rv_flips.specs.Cells.{One}
-use Rattle.flip_frames.specs.Views.{Stage, Runs}
+use Rattle.flip_frames.specs.Views.{Runs}
 use Rattle.flip_frames.specs.Computing.{effect_of}
 use Rattle.flip_frames.specs.Fetching.{Triple}
 use Rattle.flip_versions.specs.Operations.{resting, IsSlot, defined}
-use Rattle.flip_guards.specs.Sources.{Part}
-use Rattle.flip_guards.specs.Fetching as fetching
 use Rattle.flip_copies.specs.Copies.{IsReadInTime}
 use Rattle.flip_select.specs.Select.{select_code}
 use Rattle.flip_select.proofs.SelectLaw.{ones, loaded_three}
-use Rattle.kept_states.specs.Layouts.{FrameLayout, Layout, IsGoodFrame, IsGoodLayout}
-use Rattle.kept_states.specs.Kept.{word_of, KeepsState}
+use Rattle.kept_states.specs.Layouts.{FrameLayout, IsGoodFrame}
+use Rattle.kept_states.specs.Kept.{word_of}
 use Rattle.kept_states.proofs.Stacks.{room}
-use Rattle.done_operations.specs.Sources.{MakeWords, source_of, IsWithin}
-use Rattle.done_operations.specs.Operations.{Reaches}
+use Rattle.done_operations.specs.Sources.{source_of, IsWithin}
 use Rattle.done_operations.proofs.Serving.{word_small}
 use Rattle.done_operations.proofs.Done.{Sourced, triple_slots, sourced, in_time, defines}
-use Rattle.done_select.specs.Select.{choice_words, choice_at, AtChoice, SelectsAreDone}
+use Rattle.done_select.specs.Select.{choice_at, AtChoice, SelectsAreDone}
 use Rattle.done_select.proofs.Choices.{LeavesOf, choice_runs, leaves_some, leaves_first, leaves_second}
 
 -- ---- what the code leaves
