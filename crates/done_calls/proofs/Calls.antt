@@ -1,31 +1,29 @@
 -- The words of a call enter the function.
-use Rattle.std.proofs.Common.{◌≡◌, ◌≢◌, ◌≤◌, ◌<◌, ◌+◌, ◌-◌, ◌*◌, ℕ, zero, suc, ℤ, List, [], ◌∷◌, ◌++◌, map, length, Option, Some, None, inl, inr, refl, sym, ap, subst, ◌∙◌, arith, slice_index_or}
+use Rattle.std.proofs.Common.{◌≡◌, ◌≢◌, ◌≤◌, ◌<◌, ◌+◌, ◌-◌, ◌*◌, ℕ, zero, suc, ℤ, List, [], ◌∷◌, map, length, Option, inl, inr, refl, sym, ap, subst, ◌∙◌, arith, slice_index_or}
 use Rattle.std.specs.Prelude.{⊤}
 use Rattle.std.specs.List.{AllByRecursion}
 use Rattle.std.proofs.lemmas.List.{length-map}
 use Rattle.std.proofs.lemmas.Bool.Decides.{eqb_tells}
 use Rattle.ir_model.specs.Values.{Value, Poison}
-use Rattle.ir_model.specs.Programs.{Operand, Local, Fixed, Instruction, Call, Program, function_at}
-use Rattle.ir_model.specs.States.{Activation, State, StepResult, Continues, value_of, instruction_at, goes_on, entered}
+use Rattle.ir_model.specs.Programs.{Operand, Local, Fixed, Instruction, Program, function_at}
+use Rattle.ir_model.specs.States.{Activation, State, Continues, value_of, goes_on, entered}
 use Rattle.ir_model.specs.Steps.{act, did, stepped, step}
 use Rattle.ir_model.specs.Runs.{frames, IsWithinStack}
-use Rattle.rv_inst.specs.declared.instruction.Form.{Form}
 use Rattle.rv_flips.specs.Cells.{Cell, Free, Has, Sure, One}
 use Rattle.rv_flips.proofs.CellLemmas.{with_register-same, with_register-other}
 use Rattle.flip_words.specs.Placed.{IsPlaced}
 use Rattle.flip_frames.specs.Views.{Stage}
 use Rattle.flip_frames.specs.Fetching.{Triple}
-use Rattle.flip_versions.specs.Operations.{resting, IsSlot, AreSlots, HoldsVersions, IsOther}
-use Rattle.flip_jumps.specs.Jumps.{target}
+use Rattle.flip_versions.specs.Operations.{resting, IsSlot, HoldsVersions, IsOther}
 use Rattle.flip_jumps.specs.Places.{StageSaysLess, Goes}
 use Rattle.flip_jumps.proofs.PlaceLaws.{goes_then, runs_go, stage_forgotten}
 use Rattle.flip_guards.specs.Sources.{Part}
 use Rattle.flip_guards.specs.Fetching.{IsGiven}
 use Rattle.flip_guards.proofs.FetchLaws.{triples_give}
-use Rattle.flip_copies.specs.Copies.{Copy, CanCopy, IsElsewhere, IsReadInTime, IsUnread, IsClear, LeavesAlone, AllLeaveAlone, Compatible, copied, AreSet, IsBeside, IsBesideAll, SameWhere}
+use Rattle.flip_copies.specs.Copies.{Copy, CanCopy, IsElsewhere, IsClear, AllLeaveAlone, Compatible, copied, AreSet, IsBesideAll, SameWhere}
 use Rattle.flip_copies.proofs.CopyLaws.{rest_stays}
 use Rattle.flip_calls.specs.Frames.{based_at}
-use Rattle.flip_calls.specs.Calls.{call_words, jump_of, back_of, entry_words, called, IsCall, SparesSlot, AreInside}
+use Rattle.flip_calls.specs.Calls.{back_of, entry_words, called, IsCall, SparesSlot, AreInside}
 use Rattle.flip_calls.proofs.CallLaws.{calls_enter, arguments_are_set, callers_stay}
 use Rattle.kept_states.specs.Layouts.{FrameLayout, Layout, AreInFrame, IsGoodFrame, IsGoodLayout}
 use Rattle.kept_states.specs.Kept.{word_of, KeepsThree, KeepsStack, KeepsState}

@@ -1,37 +1,31 @@
 -- The laws apply to the example.
-use Rattle.std.proofs.Common.{◌≡◌, ◌≢◌, ◌≤◌, ◌<◌, ◌+◌, ◌*◌, ◌/◌, ◌%◌, ◌^◌, ℕ, zero, suc, List, [], ◌∷◌, ◌++◌, length, Option, Some, None, inl, inr, refl, sym, ap, subst, ◌∙◌, arith, append-nil, lit≤, slice_index_or}
+use Rattle.std.proofs.Common.{◌≡◌, ◌≢◌, ◌≤◌, ◌<◌, ◌+◌, ◌*◌, ◌/◌, ◌%◌, ◌^◌, ℕ, zero, suc, List, [], ◌∷◌, ◌++◌, Option, Some, None, inl, inr, refl, sym, ap, ◌∙◌, arith, append-nil, lit≤, slice_index_or}
 use Rattle.std.specs.Prelude.{pos, unwrap_or}
-use Rattle.std.proofs.lemmas.Option.{same_Some}
 use Rattle.std.proofs.lemmas.Bool.{cases_lt}
-use Rattle.ir_model.specs.Values.{Value, Integer, Address, Poison, null_block}
-use Rattle.ir_model.specs.Integers.{signed}
-use Rattle.ir_model.specs.Pointers.{extended}
-use Rattle.ir_typed_runs.proofs.Numbers.{bits_below}
-use Rattle.ir_model.specs.Programs.{Operand, Local, Program, function_at}
-use Rattle.ir_model.specs.States.{Activation, State, Continues, entered}
+use Rattle.ir_model.specs.Values.{Value, Integer, Poison}
+use Rattle.ir_model.specs.Programs.{Local, function_at}
+use Rattle.ir_model.specs.States.{State, Continues, entered}
 use Rattle.ir_model.specs.Steps.{act, step}
-use Rattle.ir_model.specs.Runs.{IsWithinStack}
 use Rattle.rv_inst.specs.declared.instruction.Form.{Form}
 use Rattle.rv_model.specs.Text.{text_base}
 use Rattle.rv_model.proofs.TextLemmas.{stands_from}
-use Rattle.rv_flips.specs.Cells.{Free}
 use Rattle.flip_words.specs.Placed.{IsPlaced}
 use Rattle.flip_words.proofs.CarryLemmas.{placed_front, placed_back}
-use Rattle.flip_frames.specs.Fetching.{Triple}
 use Rattle.flip_versions.specs.Operations.{AreDifferent, IsOther}
 use Rattle.flip_versions.proofs.VersionLaws.{defined_hold, others_stay}
 use Rattle.flip_jumps.proofs.PlaceLaws.{goes_then}
-use Rattle.flip_guards.specs.Sources.{Part, Small, Plus, Shifted, part_value, made}
+use Rattle.flip_guards.specs.Sources.{Part, Plus, Shifted, part_value, made}
 use Rattle.flip_copies.specs.Copies.{IsClear}
 use Rattle.flip_calls.specs.Calls.{entry_words}
-use Rattle.kept_states.specs.Layouts.{FrameLayout, AreInFrame, IsGoodFrame, IsGoodLayout}
+use Rattle.kept_states.specs.Layouts.{AreInFrame, IsGoodFrame, IsGoodLayout}
 use Rattle.kept_states.specs.Kept.{word_of, KeepsThree, KeepsState}
 use Rattle.kept_states.proofs.Stacks.{held_three}
 use Rattle.done_operations.specs.Sources.{MakeWords}
+use Rattle.done_operations.proofs.Serving.{word_small}
 use Rattle.done_flow.specs.Edges.{Arrives}
 use Rattle.done_calls.specs.Calls.{call_at, AtCall}
 use Rattle.done_calls.specs.Returns.{IsGoodResult, AreGoodResults, return_at, after_at, AtReturn, WaitsFor}
-use Rattle.done_calls.specs.Example.{calling, giving, small, three_from, laid, frame_by, waiting, spread, small_code, small_words, main_at, in_main, blank, with_seven, parts_by, parts_for, ACallIsDone}
+use Rattle.done_calls.specs.Example.{small, three_from, laid, frame_by, waiting, spread, small_code, small_words, main_at, in_main, blank, with_seven, parts_by, parts_for, ACallIsDone}
 use Rattle.done_calls.proofs.Calls.{calls}
 use Rattle.done_calls.proofs.Returns.{returns_done}
 use Rattle.done_calls.proofs.ExampleWords.{are_words}
@@ -148,11 +142,6 @@ number_made (suc n) w lt =
     part_more (parts_by n (w / 2048)) (Shifted (pos 11) ∷ Plus (pos (w % 2048)) ∷ []) None
     ∙ ap (made (Shifted (pos 11) ∷ Plus (pos (w % 2048)) ∷ [])) (number_made n (w / 2048) (omega arith))
     ∙ ap Some (let e : (w / 2048 * 2048 % 2 ^ 64 + w % 2048) % 2 ^ 64 ≡ w = omega arith in e)
-
-word_small : (address : ℕ → ℕ) (v : Value) (w : ℕ) → word_of address v ≡ Some w → w < 2 ^ 64
-word_small address (Integer width n) w is = subst (λ (u : ℕ). u < 2 ^ 64) (same_Some (extended width n) w is) (bits_below 64 (signed width n))
-word_small address (Address q) w is = subst (λ (u : ℕ). u < 2 ^ 64) (same_Some ((address q.block + q.offset) % 2 ^ 64) w is) (let lt : (address q.block + q.offset) % 2 ^ 64 < 2 ^ 64 = omega arith in lt)
-word_small address Poison w is = cc
 
 constants_made : (address : ℕ → ℕ) → MakeWords address (parts_for address)
 constants_made address v w is =

@@ -1,5 +1,5 @@
 -- Functions that are there, room for a frame, and what is known of stages in which less is known.
-use Rattle.std.proofs.Common.{◌≡◌, ◌≢◌, ◌≤◌, ◌<◌, ◌+◌, ◌-◌, ◌*◌, ◌/◌, ◌==◌, ℕ, Bool, true, false, List, [], ◌∷◌, length, Option, Some, None, inl, inr, refl, sym, ap, subst, ◌∙◌, arith}
+use Rattle.std.proofs.Common.{◌≡◌, ◌≢◌, ◌≤◌, ◌<◌, ◌+◌, ◌*◌, ◌/◌, ◌==◌, ℕ, Bool, true, false, [], length, Some, None, inl, inr, refl, sym, ap, subst, ◌∙◌, arith}
 use Rattle.std.specs.Prelude.{nat_lt, if◌then◌else◌, slice_get, slice_index_or}
 use Rattle.std.proofs.lemmas.Bool.{cases_lt}
 use Rattle.std.proofs.lemmas.Bool.Decides.{nat_tests}
@@ -12,7 +12,7 @@ use Rattle.rv_flips.specs.Assertion.{KnownByte, AnyByte, ByteSaysLess, with_regi
 use Rattle.rv_flips.proofs.CellLemmas.{with_register-same, with_register-other, says_free}
 use Rattle.flip_words.specs.Memory.{without_bytes}
 use Rattle.flip_words.proofs.LessLemmas.{says_again, written_says}
-use Rattle.flip_frames.specs.Views.{Stage, version}
+use Rattle.flip_frames.specs.Views.{Stage}
 use Rattle.flip_frames.specs.Fetching.{Triple}
 use Rattle.flip_versions.specs.Operations.{stored, defined}
 use Rattle.flip_jumps.specs.Places.{StageSaysLess}

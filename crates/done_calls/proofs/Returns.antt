@@ -1,10 +1,10 @@
 -- The words of a return and those after the call do the step of the return.
-use Rattle.std.proofs.Common.{◌≡◌, ◌≢◌, ◌≤◌, ◌<◌, ◌+◌, ◌-◌, ◌*◌, ◌%◌, ℕ, Bool, true, false, List, [], ◌∷◌, ◌++◌, length, Option, Some, None, refl, sym, ap, subst, ◌∙◌, arith, append-nil, length-append}
+use Rattle.std.proofs.Common.{◌≡◌, ◌≤◌, ◌<◌, ◌+◌, ◌-◌, ◌*◌, ◌%◌, ℕ, Bool, true, false, List, [], ◌∷◌, ◌++◌, length, Option, Some, None, refl, sym, ap, subst, ◌∙◌, arith, append-nil, length-append}
 use Rattle.std.specs.Prelude.{pos, if◌then◌else◌}
 use Rattle.std.specs.Option.{option_and_then}
 use Rattle.ir_model.specs.Values.{Value, Poison}
 use Rattle.ir_model.specs.Programs.{Operand, Instruction, Program, function_at}
-use Rattle.ir_model.specs.States.{Activation, State, StepResult, Continues, instruction_at, after}
+use Rattle.ir_model.specs.States.{Activation, State, Continues, instruction_at, after}
 use Rattle.ir_model.specs.Steps.{returns, act, did, stepped, step}
 use Rattle.ir_model.specs.Runs.{frames, IsWithinStack}
 use Rattle.rv_inst.specs.declared.instruction.Form.{Form}
@@ -37,8 +37,7 @@ use Rattle.kept_states.proofs.Stacks.{room, three_held, held_three, stack_stays,
 use Rattle.kept_states.proofs.Moves.{callers}
 use Rattle.done_operations.specs.Sources.{MakeWords, source_of, IsWithin}
 use Rattle.done_operations.specs.Operations.{Reaches}
-use Rattle.done_operations.proofs.Done.{Sourced, sourced, defined_less}
-use Rattle.done_flow.specs.Edges.{Arrives}
+use Rattle.done_operations.proofs.Done.{sourced, defined_less}
 use Rattle.ir_model.specs.Programs.{Local, Fixed}
 use Rattle.done_calls.specs.Calls.{from_below, seen_from_below}
 use Rattle.done_calls.specs.Returns.{IsGoodResult, AreGoodResults, return_at, returned, return_of, AtReturn, left_by, KeepsResult, GivesBack, FunctionsReturn}

@@ -1,6 +1,6 @@
 -- Two functions with their layout and their words: `main` has the value 7, and calls a function that gives back what it is given.
 use Rattle.std.specs.Prelude.{ℕ, zero, suc, pos, ◌+◌, ◌*◌, ◌/◌, ◌%◌, List, [], ◌∷◌, ◌++◌, Some, None, unwrap_or}
-use Rattle.ir_model.specs.Values.{Value, Integer, Poison, null_block}
+use Rattle.ir_model.specs.Values.{Value, Integer, null_block}
 use Rattle.ir_model.specs.Programs.{Local, Call, Return, Function, Program}
 use Rattle.ir_model.specs.States.{Activation, State}
 use Rattle.rv_inst.specs.declared.instruction.Form.{Form}
@@ -26,10 +26,13 @@ calling = record {
   frame = 128;
   blocks = record {
     phis = [];
-    body = record { result = Some 1; action = Call 1; operands = Local 0 ∷ [] } ∷ record { result = None; action = Return; operands = Local 1 ∷ [] } ∷ [];
+    body =
+        record { result = Some 1; action = Call 1; operands = Local 0 ∷ [] } ∷
+        record { result = None; action = Return; operands = Local 1 ∷ [] } ∷ [];
   } ∷ [];
 }
 
+-- the function called
 abbrev pub giving : Function
 giving = record {
   params = 1;
@@ -38,21 +41,25 @@ giving = record {
   blocks = record { phis = []; body = record { result = None; action = Return; operands = Local 0 ∷ [] } ∷ [] } ∷ [];
 }
 
+-- both: `main` is function 0
 abbrev pub small : Program
 small = record { globals = []; functions = calling ∷ giving ∷ []; main = 0 }
 
--- frames of sixteen slots: the return address, two values, two cells, and where the result waits
+-- three slots one after another
 abbrev pub three_from : ℕ → Triple
 three_from n = record { one = n; two = n + 1; three = n + 2 }
 
+-- a frame of sixteen slots: the return address, two values, two cells, and where the result waits
 abbrev pub laid : FrameLayout
 laid = record { size = 16; places = λ id. three_from (1 + 3 * id); cells = λ id. three_from (7 + 3 * id); link = 0 }
 
+-- both functions have one
 abbrev pub frame_by : ℕ → FrameLayout
 frame_by zero = laid
 frame_by (suc zero) = laid
 frame_by (suc (suc f)) = record laid { size = 0 }
 
+-- where results wait
 abbrev pub waiting : ℕ → Triple
 waiting f = three_from 13
 
@@ -66,6 +73,7 @@ small_code parts =
     call_at laid laid parts (Local 0 ∷ []) (pos 88)
     ++ (after_at laid laid (three_from 13) (Some 1) ++ (entry_words 0 ++ return_at laid parts (three_from 13) (Some (Local 0))))
 
+-- their numbers
 abbrev pub small_words : List ℕ
 small_words =
     0xf8010113 ∷ 0xf8018193 ∷ 0xf8020213 ∷ 0x00310463 ∷ 0x00020113 ∷ 0x08813283 ∷ 0x00310463 ∷ 0x00020113 ∷
@@ -82,13 +90,15 @@ small_words =
 abbrev pub main_at : ℕ → Value → Activation
 main_at position v = record { function = 0; block = 0; position = position; values = Integer 32 7 ∷ v ∷ []; owned = [] }
 
+-- the state with that activation alone
 abbrev pub in_main : ℕ → Value → State
 in_main position v = record { stack = main_at position v ∷ []; memory = null_block ∷ []; input = []; out = [] }
 
--- a stage that keeps it before the call
+-- a stage of which nothing is known
 abbrev pub blank : Stage
 blank = record { base = 1048562; places = λ r. Free; slots = λ k. Free; bytes = λ o. AnyByte; size = 8388624; input = []; out = [] }
 
+-- one that keeps the state before the call
 abbrev pub with_seven : Stage
 with_seven = defined blank (three_from 1) (Some 7)
 

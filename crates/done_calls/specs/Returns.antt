@@ -57,6 +57,7 @@ abbrev pub return_of : Option Operand → Instruction
 return_of None = record { result = None; action = ReturnVoid; operands = [] }
 return_of (Some x) = record { result = None; action = Return; operands = x ∷ [] }
 
+-- the operand of a return, if it has one, is there
 abbrev pub IsWithinIfGiven : ℕ → Option Operand → Type 0
 IsWithinIfGiven values None = ⊤
 IsWithinIfGiven values (Some x) = IsWithin values x
@@ -73,7 +74,8 @@ abbrev pub left_by : Activation → Activation → List Activation → State →
 left_by a b rest s = record s { stack = b ∷ rest; memory = all_ended a.owned s.memory }
 
 -- a stage keeps a state to which a function has returned a value: its frame is still the innermost one, and has the value where results wait
-pub record KeepsResult (l : Layout) (address : ℕ → ℕ) (size : ℕ) (results : ℕ → Triple) (g : Stage) (s : State) (f : ℕ) (v : Value) : Type 0 where
+pub record KeepsResult (l : Layout) (address : ℕ → ℕ) (size : ℕ) (results : ℕ → Triple) (g : Stage) (s : State) (f : ℕ) (v : Value)
+    : Type 0 where
   pub value : KeepsThree g.slots g.base (results f) (word_of address v)
   pub caller : KeepsState l address size (based_at g (g.base + (l.frames f).size)) s
 
@@ -104,6 +106,7 @@ taken_copies caller r (Some id) = record { source = in_slots r; goal = caller.pl
 abbrev pub after_at : FrameLayout → FrameLayout → Triple → Option ℕ → List Form
 after_at caller callee r result = after_words (taken_copies (seen_from_below callee.size caller) r result) callee.size
 
+-- the value that a call gives, if it gives one, is one of so many
 abbrev pub IsResultOf : ℕ → Option ℕ → Type 0
 IsResultOf values None = ⊤
 IsResultOf values (Some id) = id < values

@@ -1,5 +1,5 @@
 -- The words of an operation serve it: where it gives a value that has a word, they leave that word.
-use Rattle.std.proofs.Common.{◌≡◌, ◌≤◌, ◌<◌, ◌==◌, ◌^◌, ℕ, Bool, true, false, if◌then◌else◌, List, [], ◌∷◌, Option, Some, None, refl, sym, ap, subst, ◌∙◌, arith}
+use Rattle.std.proofs.Common.{◌≡◌, ◌≤◌, ◌<◌, ◌+◌, ◌%◌, ◌==◌, ◌^◌, ℕ, Bool, true, false, if◌then◌else◌, List, [], ◌∷◌, Option, Some, None, refl, sym, ap, subst, ◌∙◌, arith}
 use Rattle.std.proofs.lemmas.Option.{same_Some, none-some}
 use Rattle.ir_tree.specs.declared.module.Bin.{Bin}
 use Rattle.ir_tree.specs.declared.module.Bin.TheVariants.{Add, Sub, Mul, Shl, Udiv, Sdiv, Lshr, Ashr, Urem, Srem, And, Or, Xor}
@@ -8,10 +8,11 @@ use Rattle.ir_tree.specs.declared.module.Pred.{Pred}
 use Rattle.ir_tree.specs.declared.module.Conv.{Conv}
 use Rattle.ir_model.specs.declared.Why.TheVariants as why
 use Rattle.ir_model.specs.Values.{Value, Integer, Address, Poison, MemoryBlock, Answer, Gives, Fails}
-use Rattle.ir_model.specs.Integers.{binary, holds, truth, converted}
+use Rattle.ir_model.specs.Integers.{signed, binary, holds, truth, converted}
 use Rattle.ir_model.specs.Pointers.{extended}
 use Rattle.ir_model.specs.Operations.{Binary, Compare, Convert, Freeze, compute}
 use Rattle.ir_typed_runs.specs.Kinds.{OfWidth, HasWidth, IsOfKind, Converts, Answers}
+use Rattle.ir_typed_runs.proofs.Numbers.{bits_below}
 use Rattle.ir_typed_runs.proofs.Computed.{compute_kind}
 use Rattle.flip_frames.specs.Views.{with_value}
 use Rattle.flip_versions.specs.Operations.{Leaves}
@@ -23,6 +24,13 @@ use Rattle.kept_states.specs.Kept.{word_of}
 abbrev pub Serve : (ℕ → ℕ) → Answer → Value → Value → (Option ℕ → Option ℕ → Option ℕ → Type 0) → Type 0
 Serve address answer x y Leave = (v : Value) (w : ℕ) (o1 o2 : Option ℕ) → answer ≡ Gives v → word_of address v ≡ Some w
     → ((u : ℕ) → word_of address x ≡ Some u → o1 ≡ Some u) → ((u : ℕ) → word_of address y ≡ Some u → o2 ≡ Some u) → Leave o1 o2 (Some w)
+
+-- the word of a value is one of 64 bits
+pub word_small : (address : ℕ → ℕ) (v : Value) (w : ℕ) → word_of address v ≡ Some w → w < 2 ^ 64
+word_small address (Integer width n) w is = subst (λ (u : ℕ). u < 2 ^ 64) (same_Some (extended width n) w is) (bits_below 64 (signed width n))
+word_small address (Address q) w is =
+    subst (λ (u : ℕ). u < 2 ^ 64) (same_Some ((address q.block + q.offset) % 2 ^ 64) w is) (let lt : (address q.block + q.offset) % 2 ^ 64 < 2 ^ 64 = omega arith in lt)
+word_small address Poison w is = cc
 
 -- ---- poison
 gives_same : (v w : Value) → Gives v ≡ Gives w → v ≡ w

@@ -63,7 +63,7 @@ brought_less v r o scratch q =
     (written_says (with_register r28 29 Free) less29 r (version v.tag o) (version v.tag o) (says_again (version v.tag o)) (λ i ne. s29 i) q)
     (scratch_written v29 r o (version v.tag o) scratch (says_again (version v.tag o)) q)
 
-brings_run : (words : List ℕ) (v : View) (r : ℕ) (s : Source) (o : Option ℕ) → 4 < r → is_scratch r ≡ true → IsVersion v.tag → GivesTurn v.stage s v.tag o
+pub brings_run : (words : List ℕ) (v : View) (r : ℕ) (s : Source) (o : Option ℕ) → 4 < r → is_scratch r ≡ true → IsVersion v.tag → GivesTurn v.stage s v.tag o
     → Runs words (bring r s) v (with_scratch (far_view v) r o)
 brings_run words v r s o above scratch turn gives =
     record {

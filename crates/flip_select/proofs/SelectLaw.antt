@@ -18,16 +18,16 @@ use Rattle.flip_select.specs.Select.{IsMask, IsWord, chosen, select_code, select
 use Rattle.flip_select.proofs.MaskLaw.{mask_runs}
 
 -- the code leaves a value in x5
-record Leaves (words : List ℕ) (v : View) (o : Option ℕ) : Type 0 where
-  file : ℕ → Option ℕ
-  is : file 5 ≡ o
-  runs : Runs words select_code v (record v { file = file })
+pub record Leaves (words : List ℕ) (v : View) (o : Option ℕ) : Type 0 where
+  pub file : ℕ → Option ℕ
+  pub is : file 5 ≡ o
+  pub runs : Runs words select_code v (record v { file = file })
 
 of_none : (f : ℕ → ℕ → ℕ) (o : Option ℕ) → of_both f o None ≡ None
 of_none f None = refl
 of_none f (Some v) = refl
 
-abbrev ones : ℕ
+abbrev pub ones : ℕ
 ones = 2 ^ 64 - 1
 
 -- a value under a mask of ones
@@ -54,7 +54,7 @@ unknown_leaves words v e =
     }
 
 -- the condition doesn't hold: the first value is masked, whatever it is
-zero_leaves : (words : List ℕ) (v : View) (second : Option ℕ) → v.file 5 ≡ Some 0 → v.file 7 ≡ second → IsWord second → Leaves words v second
+pub zero_leaves : (words : List ℕ) (v : View) (second : Option ℕ) → v.file 5 ≡ Some 0 → v.file 7 ≡ second → IsWord second → Leaves words v second
 unfolding with_value
 zero_leaves words v second e f wide =
     let rest : List Form = XORI 5 5 (negsuc 0) ∷ AND 7 7 5 ∷ OR 5 6 7 ∷ [] in
@@ -65,7 +65,7 @@ zero_leaves words v second e f wide =
     }
 
 -- it holds: the second value is masked
-ones_leaves : (words : List ℕ) (v : View) (first : Option ℕ) → v.file 5 ≡ Some ones → v.file 6 ≡ first → IsWord first → Leaves words v first
+pub ones_leaves : (words : List ℕ) (v : View) (first : Option ℕ) → v.file 5 ≡ Some ones → v.file 6 ≡ first → IsWord first → Leaves words v first
 unfolding with_value
 ones_leaves words v first e f wide =
     let front : List Form = AND 6 6 5 ∷ XORI 5 5 (negsuc 0) ∷ [] in
@@ -87,11 +87,11 @@ code_leaves words v (Some m) first second (inr all) w1 w2 e f g =
     subst P (sym all) (ones_leaves words v first (e ∙ ap (λ (n : ℕ). Some n) all) f w1)
 
 -- the values after three loads
-abbrev loaded_three : Option ℕ → Option ℕ → Option ℕ → ℕ → Option ℕ
+abbrev pub loaded_three : Option ℕ → Option ℕ → Option ℕ → ℕ → Option ℕ
 loaded_three m x y =
     with_value (with_value (with_value (with_value (with_value (with_value (with_value (with_value (with_value no_values 28 None) 29 None) 5 m) 28 None) 29 None) 6 x) 28 None) 29 None) 7 y
 
-loads_bring : (m x y : Option ℕ) → (loaded_three m x y 5 ≡ m) × (loaded_three m x y 6 ≡ x) × (loaded_three m x y 7 ≡ y)
+pub loads_bring : (m x y : Option ℕ) → (loaded_three m x y 5 ≡ m) × (loaded_three m x y 6 ≡ x) × (loaded_three m x y 7 ≡ y)
 unfolding with_value
 loads_bring m x y = (refl, refl, refl)
 
