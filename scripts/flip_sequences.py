@@ -572,7 +572,10 @@ def try_program(kind, seed, folder, pool, everything):
     chosen = flips if everything else random.Random(seed).sample(flips, min(SAMPLE, len(flips)))
     words = [[swiftr_program(), "flip", exe, given, str(STEPS), *map(str, flip)] for flip in chosen]
     harmful += [flip for flip, told in zip(chosen, pool.map(by_swiftr, words)) if told != wanted]
-    lines = [f"{kind.__name__} {seed}: bit {bit} of x{r} before instruction {n}, the word {states[n].at}, does harm" for n, r, bit in sorted(set(harmful))]
+    lines = [
+        f"{kind.__name__} {seed}: bit {bit} of x{r} before instruction {n}, the word {states[n].at}, does harm"
+        for n, r, bit in sorted(set(harmful))
+    ]
     return len(flips), len(chosen), lines
 
 
@@ -595,7 +598,8 @@ def main():
                 here, there, more = try_program(kind, seed, Path(folder), pool, "--all" in sys.argv)
                 totals, lines = [totals[0] + here, totals[1] + there], lines + more
             bad += len(lines)
-            print(f"{kind.__name__:24} {rounds} programs, {totals[0]} flips outside the window points, {totals[1]} of them by swiftr, {len(lines)} harmful")
+            outside = f"{totals[0]} flips outside the window points, {totals[1]} of them by swiftr"
+            print(f"{kind.__name__:24} {rounds} programs, {outside}, {len(lines)} harmful")
             print("".join(f"    {line}\n" for line in lines[:10]), end="", flush=True)
     return 1 if bad else 0
 
