@@ -114,16 +114,33 @@ def one_operand(code, x, d):
     return [i for v in range(3) for i in bring(5, x[v]) + code + any_store(5, d[v])]
 
 
-def bring_voted(d, source):
-    return [LD(d, 2, 8 * source.n)] if isinstance(source, Slot) else bring(d, source)
+def is_near_slot(source):
+    return isinstance(source, Slot) and source.n < 256
+
+
+def early(r, source):
+    return [] if is_near_slot(source) else bring(r, source)
+
+
+def late(r, source):
+    return [LD(r, 2, 8 * source.n)] if is_near_slot(source) else []
 
 
 def two_voted(code, x, y, d):
-    return [i for v in range(3) for i in VOTE + bring_voted(5, x[v]) + bring_voted(6, y[v]) + code + [SD(2, 5, 8 * d[v])]]
+    words = []
+    for v in range(3):
+        loads = VOTE + late(5, x[v]) + late(6, y[v])
+        near = early(5, x[v]) + early(6, y[v]) + loads + code + [SD(2, 5, 8 * d[v])]
+        words += near if d[v] < 256 else bring(5, x[v]) + bring(6, y[v]) + code + any_store(5, d[v])
+    return words
 
 
 def one_voted(code, x, d):
-    return [i for v in range(3) for i in VOTE + bring_voted(5, x[v]) + code + [SD(2, 5, 8 * d[v])]]
+    words = []
+    for v in range(3):
+        near = early(5, x[v]) + VOTE + late(5, x[v]) + code + [SD(2, 5, 8 * d[v])]
+        words += near if d[v] < 256 else bring(5, x[v]) + code + any_store(5, d[v])
+    return words
 
 
 def access_words(loads, code, stores):
@@ -364,8 +381,7 @@ def operations(p):
 
 
 def voted_operations(p):
-    x, y = (p.rng.choice((lambda: in_slots(p.value(p.near())), p.places, lambda: constant(p.parts())))() for _ in range(2))
-    d, e = p.near(), p.near()
+    x, y, d, e = p.operand(), p.operand(), p.any(), p.near()
     p.code += two_voted(pure_code(p.rng), x, y, d) + one_voted([ADDI(5, 5, 7)], in_slots(d), e)
     p.observe(e)
 
