@@ -117,7 +117,7 @@ one_value : (o1 : Option ℕ) (q : ℕ) → with_value (with_value (with_value n
 unfolding with_value
 one_value o1 q = one_test (q == 6) (q == 29) (q == 28) (q == 5) o1 ∙ no_sixth (q == 6) (q == 5) o1 (λ e. grind (arith, nat_tests))
 
-two_version : (words : List ℕ) (code : List Form) (g : Stage) (t t' : Tag) (x y : Source) (d : ℕ) (o1 o2 o : Option ℕ) → list_all is_pure code ≡ true
+pub two_version : (words : List ℕ) (code : List Form) (g : Stage) (t t' : Tag) (x y : Source) (d : ℕ) (o1 o2 o : Option ℕ) → list_all is_pure code ≡ true
     → Leaves code o1 o2 o → IsVersion t → IsVersion t' → GivesTurn g x t o1 → GivesTurn g y t o2 → IsSlot g d
     → Runs words (version_of_two code x y d) (resting g t) (resting (stored g d t o) t')
 two_version words code g t t' x y d o1 o2 o pure leaves turn turn' gx gy sd =
@@ -129,7 +129,7 @@ two_version words code g t t' x y d o1 o2 o pure leaves turn turn' gx gy sd =
     runs_then (brings_run words v 5 x o1 (omega arith) refl turn gx)
     (runs_then (brings_run words v1 6 y o2 (omega arith) refl turn gy) (store_turns g t t' d (effect_of code v2.file) o turn' sd value (pure_runs words code v2 pure)))
 
-one_version : (words : List ℕ) (code : List Form) (g : Stage) (t t' : Tag) (x : Source) (d : ℕ) (o1 o : Option ℕ) → list_all is_pure code ≡ true
+pub one_version : (words : List ℕ) (code : List Form) (g : Stage) (t t' : Tag) (x : Source) (d : ℕ) (o1 o : Option ℕ) → list_all is_pure code ≡ true
     → Leaves code o1 None o → IsVersion t → IsVersion t' → GivesTurn g x t o1 → IsSlot g d
     → Runs words (version_of_one code x d) (resting g t) (resting (stored g d t o) t')
 one_version words code g t t' x d o1 o pure leaves turn turn' gx sd =

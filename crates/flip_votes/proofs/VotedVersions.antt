@@ -1,138 +1,38 @@
 -- One version of an operation by one vote, and three of them in a row.
 use Rattle.std.proofs.Common.{◌≡◌, ◌≢◌, ℕ, ◌+◌, ◌<◌, ◌≤◌, ◌==◌, Bool, true, false, List, [], ◌∷◌, ◌++◌, length, cond, Option, None, Some, refl, sym, ◌∙◌, ap, subst, arith, length-append, append_assoc, lit≤}
-use Rattle.std.specs.Prelude.{pos}
 use Rattle.std.specs.List.{list_all}
 use Rattle.std.proofs.lemmas.Bool.{and_parts, and_from}
 use Rattle.std.proofs.lemmas.Bool.Decides.{nat_tests}
 use Rattle.rv_inst.specs.declared.instruction.Form.{Form}
-use Rattle.rv_inst.specs.declared.instruction.Form.TheVariants.{LUI, ADDI, ADDIW, SLLI, ADDW}
+use Rattle.rv_inst.specs.declared.instruction.Form.TheVariants.{ADDW}
 use Rattle.rv_inst.specs.declared.table.Format.{Format}
 use Rattle.rv_inst.specs.declared.table.Format.TheVariants.{Upper, Jump, Immediate, Branch, Store, Register, Shift, ShiftWord, System}
 use Rattle.rv_inst.specs.declared.table.Operands.{Operands}
 use Rattle.rv_inst.specs.Forms.{kind_of, operands_of}
 use Rattle.rv_inst.specs.Registers.{reads, writes, sources, target}
 use Rattle.rv_inst.specs.Table.{row}
-use Rattle.rv_model.specs.State.{plus64}
-use Rattle.rv_model.specs.Operations.{bits64, upper_value, shifted_left, plus32}
-use Rattle.rv_flips.specs.Cells.{Tag, One, Two, Three, Has, Sure}
-use Rattle.rv_flips.proofs.CellLemmas.{with_register-other, says_same, says_free}
-use Rattle.flip_words.specs.Placed.{WindowPoints, Excepted}
-use Rattle.flip_words.specs.Words.{slot_address}
-use Rattle.flip_words.proofs.CarryLemmas.{carries_less}
-use Rattle.flip_words.proofs.LessLemmas.{says_again, knows_same}
-use Rattle.flip_words.proofs.ComputeLaws.{upper_carries, constant_carries, copy_carries}
-use Rattle.flip_frames.specs.Views.{Stage, View, IsVersion, Runs, is_scratch, version, view_cell, with_value, with_scratch, no_values}
-use Rattle.flip_frames.specs.Computing.{of_both, computed, is_operand, is_pure, effect_of}
+use Rattle.rv_model.specs.Operations.{plus32}
+use Rattle.rv_flips.specs.Cells.{Tag, One, Two, Three}
+use Rattle.rv_flips.proofs.CellLemmas.{says_free}
+use Rattle.flip_frames.specs.Views.{Stage, View, IsVersion, Runs, is_scratch, version, with_value, no_values}
+use Rattle.flip_frames.specs.Computing.{is_operand, is_pure, effect_of}
 use Rattle.flip_frames.specs.Fetching.{Triple}
-use Rattle.flip_frames.specs.Slots.{vote_words, with_slot}
-use Rattle.flip_frames.proofs.ViewLemmas.{scratch_above, view_cell-zero, scratch_kept, with_value-same, with_value-other}
-use Rattle.flip_frames.proofs.RunLaws.{runs_then, runs_less}
+use Rattle.flip_frames.specs.Slots.{vote_words, is_near, with_slot}
+use Rattle.flip_frames.proofs.ViewLemmas.{scratch_above, with_value-other}
+use Rattle.flip_frames.proofs.RunLaws.{runs_then, runs_none, runs_less}
 use Rattle.flip_versions.specs.Operations.{resting, IsSlot, stored, Leaves, IsApart}
 use Rattle.flip_versions.proofs.VersionLaws.{slot_after}
-use Rattle.flip_guards.specs.Sources.{Part, Upper, Small, Plus, PlusWord, Shifted, part_word, part_words, part_value, of_known, made, Source, InSlot, InRegister, Constant}
+use Rattle.flip_guards.specs.Sources.{Upper, Source, InSlot, InRegister, Constant, bring}
 use Rattle.flip_guards.specs.Fetching.{in_slots}
 use Rattle.flip_guards.proofs.FetchLaws.{triples_give}
 use Rattle.flip_copies.specs.Copies.{IsReadInTime}
 use Rattle.flip_copies.proofs.CopyLaws.{GivesTurn, gives_stored}
-use Rattle.flip_votes.specs.Votes.{voted, RunsVoted, lets_stand, ends_in_access, IsServed, voted_store}
-use Rattle.flip_votes.specs.Versions.{bring_voted, voted_two, voted_one, IsShort, TwoAreVoted, OneIsVoted, OperationsAreVoted, AdditionsAreVoted, AdditionsAreShort}
-use Rattle.flip_votes.proofs.VotedRuns.{voted_then, voted_none, voted_less, word_voted, scratch_voted, load_voted, store_voted, pure_parts, computing_voted, pure_voted}
+use Rattle.flip_operations.specs.Operations.{version_of_two, version_of_one}
+use Rattle.flip_operations.proofs.OperationLaws.{brings_run, two_version, one_version}
+use Rattle.flip_votes.specs.Votes.{RunsVoted, lets_stand, ends_in_access, IsServed, voted_store}
+use Rattle.flip_votes.specs.Versions.{is_near_slot, slot_load, late, near_two, near_one, voted_two, voted_one, TwoAreVoted, OneIsVoted, AdditionsAreVoted, AdditionsAreShort}
+use Rattle.flip_votes.proofs.VotedRuns.{voted_then, voted_none, load_voted, store_voted, pure_parts, pure_voted}
 use Rattle.flip_votes.proofs.VoteWindows.{scratch_apart, served_runs}
-
--- ---- a version comes into a scratch register
--- a register is written twice
-twice_written : (file : ℕ → Option ℕ) (d : ℕ) (a b : Option ℕ) (q : ℕ) → with_value (with_value file d a) d b q ≡ with_value file d b q
-unfolding with_value
-twice_written file d a b q = by (q == d)
-  where
-    by : (t : Bool) → cond t b (cond t a (file q)) ≡ cond t b (file q)
-    by true = refl
-    by false = refl
-
--- what is there may be written there
-same_written : (file : ℕ → Option ℕ) (d q : ℕ) → with_value file d (file d) q ≡ file q
-same_written file d q = by (q == d) refl
-  where
-    by : (t : Bool) → (q == d) ≡ t → with_value file d (file d) q ≡ file q
-    by true e =
-        let same : d ≡ q = grind (arith, nat_tests) in
-        let P : ℕ → Type 0 = λ k. with_value file d (file d) k ≡ file k in
-        subst P same (with_value-same file d (file d))
-    by false e = let other : q ≢ d = grind (arith, nat_tests) in with_value-other file d q (file d) other
-
-known_value : (f : ℕ → ℕ → ℕ) (w : ℕ) (o : Option ℕ) → of_both f o (Some w) ≡ of_known (λ v. f v w) o
-known_value f w None = refl
-known_value f w (Some v) = refl
-
--- one word of a constant
-part_voted : (words : List ℕ) (v : View) (d : ℕ) (x : Part) → is_scratch d ≡ true → RunsVoted words (part_word d x ∷ []) v (with_scratch v d (part_value x (v.file d)))
-part_voted words v d (Upper imm) scratch =
-    word_voted words (LUI d imm) v (with_scratch v d (Some (upper_value imm))) (scratch_kept v d (Some (upper_value imm)))
-    (λ p is covered.
-    let above : 4 < d = scratch_above d scratch in
-    carries_less (knows_same (voted v p)) (upper_carries words (Excepted WindowPoints words) (voted v p) d imm v.tag (omega arith) covered)
-    (scratch_voted v d (Some (upper_value imm)) (Has v.tag (upper_value imm)) (p + 4) (p + 4) scratch (says_again (Has v.tag (upper_value imm))) refl))
-part_voted words v d (Small imm) scratch =
-    word_voted words (ADDI d 0 imm) v (with_scratch v d (Some (bits64 imm))) (scratch_kept v d (Some (bits64 imm)))
-    (λ p is covered.
-    let above : 4 < d = scratch_above d scratch in
-    let none : 0 ≢ 2 = omega arith in
-    let zero : (voted v p).regs 0 ≡ Has Sure 0 = with_register-other (view_cell v.stage v.tag v.file) 2 0 (Has Sure (slot_address v.stage.base)) none ∙ view_cell-zero v.stage v.tag v.file in
-    carries_less (knows_same (voted v p)) (constant_carries words (Excepted WindowPoints words) (voted v p) d imm v.tag zero (omega arith) covered)
-    (scratch_voted v d (Some (bits64 imm)) (Has v.tag (bits64 imm)) (p + 4) (p + 4) scratch (says_again (Has v.tag (bits64 imm))) refl))
-part_voted words v d (Plus imm) scratch =
-    let above : 4 < d = scratch_above d scratch in
-    let e0 : (d == 0) ≡ false = grind (arith, nat_tests) in
-    let pure : is_pure (ADDI d d imm) ≡ true = rw (e0, scratch) refl in
-    let value : computed (ADDI d d imm) v.file ≡ part_value (Plus imm) (v.file d) = rw e0 (known_value plus64 (bits64 imm) (v.file d)) in
-    let P : Option ℕ → Type 0 = λ o. RunsVoted words (ADDI d d imm ∷ []) v (with_scratch v d o) in
-    subst P value (computing_voted words (ADDI d d imm) v pure)
-part_voted words v d (PlusWord imm) scratch =
-    let above : 4 < d = scratch_above d scratch in
-    let e0 : (d == 0) ≡ false = grind (arith, nat_tests) in
-    let pure : is_pure (ADDIW d d imm) ≡ true = rw (e0, scratch) refl in
-    let value : computed (ADDIW d d imm) v.file ≡ part_value (PlusWord imm) (v.file d) = rw e0 (known_value plus32 (bits64 imm) (v.file d)) in
-    let P : Option ℕ → Type 0 = λ o. RunsVoted words (ADDIW d d imm ∷ []) v (with_scratch v d o) in
-    subst P value (computing_voted words (ADDIW d d imm) v pure)
-part_voted words v d (Shifted imm) scratch =
-    let above : 4 < d = scratch_above d scratch in
-    let e0 : (d == 0) ≡ false = grind (arith, nat_tests) in
-    let pure : is_pure (SLLI d d imm) ≡ true = rw (e0, scratch) refl in
-    let value : computed (SLLI d d imm) v.file ≡ part_value (Shifted imm) (v.file d) = rw e0 (known_value shifted_left (bits64 imm) (v.file d)) in
-    let P : Option ℕ → Type 0 = λ o. RunsVoted words (SLLI d d imm ∷ []) v (with_scratch v d o) in
-    subst P value (computing_voted words (SLLI d d imm) v pure)
-
--- all words of a constant
-parts_voted : (words : List ℕ) (v : View) (d : ℕ) (xs : List Part) → is_scratch d ≡ true → RunsVoted words (part_words d xs) v (with_scratch v d (made xs (v.file d)))
-parts_voted words v d [] scratch =
-    voted_less (with_value v.file d (v.file d)) (λ q. says_same (version v.tag (v.file q)) (version v.tag (with_value v.file d (v.file d) q)) (ap (version v.tag) (sym (same_written v.file d q)))) (voted_none words v)
-parts_voted words v d (x ∷ xs) scratch =
-    let a = part_value x (v.file d) in
-    let v1 : View = with_scratch v d (part_value x (v.file d)) in
-    let last : with_value (with_value v.file d (part_value x (v.file d))) d (made xs (with_value v.file d (part_value x (v.file d)) d)) ≡ with_value v.file d (made xs (part_value x (v.file d))) =
-    λ i q. (ap (λ b. with_value (with_value v.file d (part_value x (v.file d))) d (made xs b) q) (with_value-same v.file d (part_value x (v.file d))) ∙ twice_written v.file d (part_value x (v.file d)) (made xs (part_value x (v.file d))) q) i in
-    let P : (ℕ → Option ℕ) → Type 0 = λ file. RunsVoted words (part_words d xs) (with_scratch v d (part_value x (v.file d))) (record v { file = file }) in
-    voted_then (part_voted words v d x scratch) (subst P last (parts_voted words v1 d xs scratch))
-
--- a place is none of the scratch registers, and isn't x2
-place_cell : (g : Stage) (t : Tag) (file : ℕ → Option ℕ) (r : ℕ) → 7 < r → r < 28 → view_cell g t file r ≡ view_cell g One no_values r
-unfolding view_cell
-place_cell g t file r above below = grind (arith, nat_tests)
-
-source_voted : (words : List ℕ) (v : View) (d : ℕ) (s : Source) (o : Option ℕ) → is_scratch d ≡ true → v.file d ≡ None → GivesTurn v.stage s v.tag o → RunsVoted words (bring_voted d s) v (with_scratch v d o)
-source_voted words v d (InSlot n) o scratch none gives = load_voted words v d n o scratch gives.0.within gives.1
-source_voted words v d (InRegister r) o scratch none gives =
-    word_voted words (ADDI d r (pos 0)) v (with_scratch v d o) (scratch_kept v d o)
-    (λ p is covered.
-    let above : 4 < d = scratch_above d scratch in
-    let apart : r ≢ 2 = omega (arith, gives.0.0) in
-    let holds : (voted v p).regs r ≡ version v.tag o =
-    with_register-other (view_cell v.stage v.tag v.file) 2 r (Has Sure (slot_address v.stage.base)) apart ∙ place_cell v.stage v.tag v.file r gives.0.0 gives.0.1 ∙ gives.1 in
-    carries_less (knows_same (voted v p)) (copy_carries words (Excepted WindowPoints words) (voted v p) d r (omega arith) covered)
-    (scratch_voted v d o ((voted v p).regs r) (p + 4) (p + 4) scratch (says_same ((voted v p).regs r) (version v.tag o) holds) refl))
-source_voted words v d (Constant parts) o scratch none gives =
-    let P : Option ℕ → Type 0 = λ x. RunsVoted words (part_words d parts) v (with_scratch v d x) in
-    subst P (ap (made parts) none ∙ gives) (parts_voted words v d parts scratch)
 
 -- ---- the vote stands all along
 target_none : (f : Format) (o : Operands) → (2 == o.rd) ≡ false → target f o 2 ≡ false
@@ -180,25 +80,6 @@ all_both (x ∷ xs) ys h k =
     let both = and_parts (lets_stand x) (list_all lets_stand xs) h in
     and_from (lets_stand x) (list_all lets_stand (xs ++ ys)) both.0 (all_both xs ys both.1 k)
 
-part_stands : (d : ℕ) (x : Part) → is_scratch d ≡ true → lets_stand (part_word d x) ≡ true
-part_stands d (Upper imm) scratch = rw (scratch_apart d scratch) refl
-part_stands d (Small imm) scratch = rw (scratch_apart d scratch) refl
-part_stands d (Plus imm) scratch = rw (scratch_apart d scratch) refl
-part_stands d (PlusWord imm) scratch = rw (scratch_apart d scratch) refl
-part_stands d (Shifted imm) scratch = rw (scratch_apart d scratch) refl
-
-parts_stand : (d : ℕ) (xs : List Part) → is_scratch d ≡ true → list_all lets_stand (part_words d xs) ≡ true
-parts_stand d [] scratch = refl
-parts_stand d (x ∷ xs) scratch = and_from (lets_stand (part_word d x)) (list_all lets_stand (part_words d xs)) (part_stands d x scratch) (parts_stand d xs scratch)
-
-source_stands : (g : Stage) (t : Tag) (o : Option ℕ) (d : ℕ) (s : Source) → is_scratch d ≡ true → GivesTurn g s t o → list_all lets_stand (bring_voted d s) ≡ true
-source_stands g t o d (InSlot n) scratch gives = rw scratch refl
-source_stands g t o d (InRegister r) scratch gives =
-    let above : 7 < r = gives.0.0 in
-    let apart : (2 == r) ≡ false = grind (arith, nat_tests) in
-    rw (apart, scratch_apart d scratch) refl
-source_stands g t o d (Constant parts) scratch gives = parts_stand d parts scratch
-
 -- what ends in an access does so after other words
 pub ends_after : (xs ys : List Form) → ends_in_access ys ≡ true → ends_in_access (xs ++ ys) ≡ true
 ends_after [] ys h = h
@@ -225,21 +106,98 @@ store_turns {words = words} {front = front} {v = v} code g t t' d file o turn sl
     let P : Option ℕ → Type 0 = λ x. Runs words (vote_words ++ (front ++ (code ++ voted_store 5 d))) v (resting (stored g d t x) t') in
     subst P is (runs_less t' no_values turn (λ q. says_free (version t (effect_of code file q))) (served_runs words (front ++ tail) v (with_slot w d (effect_of code file 5)) served all))
 
-two_version : (words : List ℕ) (code : List Form) (g : Stage) (t t' : Tag) (x y : Source) (d : ℕ) (o1 o2 o : Option ℕ) → list_all is_pure code ≡ true → IsShort code x y → Leaves code o1 o2 o → IsVersion t' →
-    GivesTurn g x t o1 → GivesTurn g y t o2 → IsSlot g d → Runs words (voted_two code x y d) (resting g t) (resting (stored g d t o) t')
-two_version words code g t t' x y d o1 o2 o pure few leaves turn gx gy sd =
+-- x28 and x29 are used up, of which nothing was known
+none_used : (f : ℕ → Option ℕ) (q : ℕ) → f 28 ≡ None → f 29 ≡ None → with_value (with_value f 28 None) 29 None q ≡ f q
+unfolding with_value
+none_used f q e28 e29 = by (q == 29) (q == 28) refl refl
+  where
+    by : (b29 b28 : Bool) → (q == 29) ≡ b29 → (q == 28) ≡ b28 → cond b29 None (cond b28 None (f q)) ≡ f q
+    by true b28 e h = let same : 29 ≡ q = grind (arith, nat_tests) in subst (λ k. None ≡ f k) same (sym e29)
+    by false true e h = let same : 28 ≡ q = grind (arith, nat_tests) in subst (λ k. None ≡ f k) same (sym e28)
+    by false false e h = refl
+
+-- a version comes in before the vote, unless it comes by it
+early_runs : (words : List ℕ) (v : View) (r : ℕ) (s : Source) (o : Option ℕ) (b : Bool) → is_scratch r ≡ true → v.file 28 ≡ None → v.file 29 ≡ None → IsVersion v.tag → GivesTurn v.stage s v.tag o
+    → Runs words (cond b [] (bring r s)) v (record v { file = cond b v.file (with_value v.file r o) })
+early_runs words v r s o true scratch e28 e29 turn gives = runs_none words v
+early_runs words v r s o false scratch e28 e29 turn gives =
+    let above : 4 < r = scratch_above r scratch in
+    let P : (ℕ → Option ℕ) → Type 0 = λ file. Runs words (bring r s) v (record v { file = with_value file r o }) in
+    let unused : with_value (with_value v.file 28 None) 29 None ≡ v.file = λ i q. none_used v.file q e28 e29 i in
+    subst P unused (brings_run words v r s o above scratch turn gives)
+
+-- and after it, where it does
+late_voted : (words : List ℕ) (v : View) (r : ℕ) (s : Source) (o : Option ℕ) (b : Bool) → is_near_slot s ≡ b → is_scratch r ≡ true → GivesTurn v.stage s v.tag o
+    → RunsVoted words (cond b (slot_load r s) []) v (record v { file = cond b (with_value v.file r o) v.file })
+late_voted words v r s o false near scratch gives = voted_none words v
+late_voted words v r (InSlot n) o true near scratch gives = load_voted words v r n o scratch gives.0.within gives.1
+late_voted words v r (InRegister k) o true near scratch gives = absurd (cc)
+late_voted words v r (Constant parts) o true near scratch gives = absurd (cc)
+
+late_stands : (r : ℕ) (s : Source) (b : Bool) → is_scratch r ≡ true → list_all lets_stand (cond b (slot_load r s) []) ≡ true
+late_stands r s false scratch = refl
+late_stands r (InSlot n) true scratch = rw scratch refl
+late_stands r (InRegister k) true scratch = refl
+late_stands r (Constant parts) true scratch = refl
+
+late_few : (r : ℕ) (s : Source) (b : Bool) → length (cond b (slot_load r s) []) ≤ 1
+late_few r s false = lit≤ tt
+late_few r (InSlot n) true = lit≤ tt
+late_few r (InRegister k) true = lit≤ tt
+late_few r (Constant parts) true = lit≤ tt
+
+-- the values that come in before the vote, and all
+abbrev early_file : Bool → Bool → Option ℕ → Option ℕ → ℕ → Option ℕ
+early_file bx by o1 o2 = cond by (cond bx no_values (with_value no_values 5 o1)) (with_value (cond bx no_values (with_value no_values 5 o1)) 6 o2)
+
+abbrev late_file : Bool → Bool → Option ℕ → Option ℕ → (ℕ → Option ℕ) → ℕ → Option ℕ
+late_file bx by o1 o2 f = cond by (with_value (cond bx (with_value f 5 o1) f) 6 o2) (cond bx (with_value f 5 o1) f)
+
+-- in whichever order they come in
+swapped : (b6 b5 : Bool) (o1 o2 : Option ℕ) → (b6 ≡ true → b5 ≡ false) → cond b5 o1 (cond b6 o2 None) ≡ cond b6 o2 (cond b5 o1 None)
+swapped true b5 o1 o2 apart = rw (apart refl) refl
+swapped false b5 o1 o2 apart = refl
+
+same_values : (bx by : Bool) (o1 o2 : Option ℕ) (q : ℕ) → late_file bx by o1 o2 (early_file bx by o1 o2) q ≡ with_value (with_value no_values 5 o1) 6 o2 q
+unfolding with_value
+same_values true true o1 o2 q = refl
+same_values true false o1 o2 q = swapped (q == 6) (q == 5) o1 o2 (λ e. grind (arith, nat_tests))
+same_values false true o1 o2 q = refl
+same_values false false o1 o2 q = refl
+
+-- x28 and x29 aren't among them
+five_apart : (b : Bool) (o : Option ℕ) (q : ℕ) → q ≢ 5 → cond b no_values (with_value no_values 5 o) q ≡ None
+five_apart true o q apart = refl
+five_apart false o q apart = with_value-other no_values 5 q o apart
+
+near_version : (words : List ℕ) (code : List Form) (g : Stage) (t t' : Tag) (x y : Source) (d : ℕ) (o1 o2 o : Option ℕ) → list_all is_pure code ≡ true → length code ≤ 28 → Leaves code o1 o2 o → IsVersion t → IsVersion t' →
+    GivesTurn g x t o1 → GivesTurn g y t o2 → IsSlot g d → Runs words (near_two code x y d) (resting g t) (resting (stored g d t o) t')
+near_version words code g t t' x y d o1 o2 o pure few leaves turn turn' gx gy sd =
+    let bx = is_near_slot x in
+    let by = is_near_slot y in
     let v = resting g t in
-    let v1 : View = with_scratch (resting g t) 5 o1 in
-    let xs = bring_voted 5 x in
-    let ys = bring_voted 6 y in
-    let size : length (bring_voted 5 x ++ bring_voted 6 y) + length code ≤ 30 = omega (arith, few, length-append (bring_voted 5 x) (bring_voted 6 y)) in
-    let apart : 6 ≢ 5 = omega arith in
-    let none : with_value no_values 5 o1 6 ≡ None = with_value-other no_values 5 6 o1 apart in
-    let whole : (bring_voted 5 x ++ bring_voted 6 y) ++ (code ++ voted_store 5 d) ≡ bring_voted 5 x ++ (bring_voted 6 y ++ (code ++ voted_store 5 d)) = append_assoc xs ys (code ++ voted_store 5 d) in
-    let P : List Form → Type 0 = λ zs. Runs words (vote_words ++ zs) (resting g t) (resting (stored g d t o) t') in
-    subst P whole
-    (store_turns code g t t' d (with_value (with_value no_values 5 o1) 6 o2) o turn sd pure leaves (all_both xs ys (source_stands g t o1 5 x refl gx) (source_stands g t o2 6 y refl gy)) size
-    (voted_then (source_voted words v 5 x o1 refl refl gx) (source_voted words v1 6 y o2 refl none gy)))
+    let v1 : View = record { stage = g; tag = t; file = cond (is_near_slot x) no_values (with_value no_values 5 o1) } in
+    let v2 : View = record { stage = g; tag = t; file = early_file (is_near_slot x) (is_near_slot y) o1 o2 } in
+    let v3 : View = record { stage = g; tag = t; file = cond (is_near_slot x) (with_value v2.file 5 o1) v2.file } in
+    let rest = code ++ voted_store 5 d in
+    let e28 = five_apart bx o1 28 (omega arith) in
+    let e29 = five_apart bx o1 29 (omega arith) in
+    let size : length (late 5 x ++ late 6 y) + length code ≤ 30 = omega (arith, few, late_few 5 x (is_near_slot x), late_few 6 y (is_near_slot y), length-append (late 5 x) (late 6 y)) in
+    let values : late_file (is_near_slot x) (is_near_slot y) o1 o2 (early_file (is_near_slot x) (is_near_slot y) o1 o2) ≡ with_value (with_value no_values 5 o1) 6 o2 = λ i q. same_values bx by o1 o2 q i in
+    let value : effect_of code (late_file (is_near_slot x) (is_near_slot y) o1 o2 (early_file (is_near_slot x) (is_near_slot y) o1 o2)) 5 ≡ o = ap (λ (f : ℕ → Option ℕ). effect_of code f 5) values ∙ leaves in
+    let loads = voted_then (late_voted words v2 5 x o1 bx refl refl gx) (late_voted words v3 6 y o2 by refl refl gy) in
+    let tail = store_turns code g t t' d (late_file bx by o1 o2 (early_file bx by o1 o2)) o turn' sd pure value (all_both (late 5 x) (late 6 y) (late_stands 5 x bx refl) (late_stands 6 y by refl)) size loads in
+    let P : List Form → Type 0 = λ zs. Runs words (vote_words ++ zs) (record { stage = g; tag = t; file = early_file (is_near_slot x) (is_near_slot y) o1 o2 }) (resting (stored g d t o) t') in
+    runs_then (early_runs words v 5 x o1 bx refl refl refl turn gx)
+    (runs_then (early_runs words v1 6 y o2 by refl e28 e29 turn gy) (subst P (append_assoc (late 5 x) (late 6 y) rest) tail))
+
+two_voted_version : (words : List ℕ) (code : List Form) (g : Stage) (t t' : Tag) (x y : Source) (d : ℕ) (o1 o2 o : Option ℕ) → list_all is_pure code ≡ true → length code ≤ 28 → Leaves code o1 o2 o → IsVersion t → IsVersion t' →
+    GivesTurn g x t o1 → GivesTurn g y t o2 → IsSlot g d → Runs words (voted_two code x y d) (resting g t) (resting (stored g d t o) t')
+two_voted_version words code g t t' x y d o1 o2 o pure few leaves turn turn' gx gy sd = by (is_near d)
+  where
+    by : (b : Bool) → Runs words (cond b (near_two code x y d) (version_of_two code x y d)) (resting g t) (resting (stored g d t o) t')
+    by true = near_version words code g t t' x y d o1 o2 o pure few leaves turn turn' gx gy sd
+    by false = two_version words code g t t' x y d o1 o2 o pure leaves turn turn' gx gy sd
 
 -- of one operand nothing is in x6
 one_test : (b6 b5 : Bool) (o1 : Option ℕ) → (b6 ≡ true → b5 ≡ false) → cond b6 None (cond b5 o1 None) ≡ cond b5 o1 None
@@ -250,22 +208,42 @@ one_value : (o1 : Option ℕ) (q : ℕ) → with_value (with_value no_values 5 o
 unfolding with_value
 one_value o1 q = one_test (q == 6) (q == 5) o1 (λ e. grind (arith, nat_tests))
 
-one_version : (words : List ℕ) (code : List Form) (g : Stage) (t t' : Tag) (x : Source) (d : ℕ) (o1 o : Option ℕ) → list_all is_pure code ≡ true → length (bring_voted 5 x) + length code ≤ 30 → Leaves code o1 None o →
-    IsVersion t' → GivesTurn g x t o1 → IsSlot g d → Runs words (voted_one code x d) (resting g t) (resting (stored g d t o) t')
-one_version words code g t t' x d o1 o pure few leaves turn gx sd =
-    let same : with_value no_values 5 o1 ≡ with_value (with_value no_values 5 o1) 6 None = λ i q. sym (one_value o1 q) i in
-    let value : effect_of code (with_value no_values 5 o1) 5 ≡ o = ap (λ (f : ℕ → Option ℕ). effect_of code f 5) same ∙ leaves in
-    store_turns code g t t' d (with_value no_values 5 o1) o turn sd pure value (source_stands g t o1 5 x refl gx) few (source_voted words (resting g t) 5 x o1 refl refl gx)
+near_single : (words : List ℕ) (code : List Form) (g : Stage) (t t' : Tag) (x : Source) (d : ℕ) (o1 o : Option ℕ) → list_all is_pure code ≡ true → length code ≤ 28 → Leaves code o1 None o → IsVersion t → IsVersion t' →
+    GivesTurn g x t o1 → IsSlot g d → Runs words (near_one code x d) (resting g t) (resting (stored g d t o) t')
+near_single words code g t t' x d o1 o pure few leaves turn turn' gx sd = by (is_near_slot x) refl
+  where
+    same : with_value no_values 5 o1 ≡ with_value (with_value no_values 5 o1) 6 None
+    same = λ i q. sym (one_value o1 q) i
+
+    value : effect_of code (with_value no_values 5 o1) 5 ≡ o
+    value = ap (λ (f : ℕ → Option ℕ). effect_of code f 5) same ∙ leaves
+
+    tail : (b : Bool) (v : View) → RunsVoted words (cond b (slot_load 5 x) []) v (record { stage = g; tag = t; file = with_value no_values 5 o1 }) → Runs words (vote_words ++ (cond b (slot_load 5 x) [] ++ (code ++ voted_store 5 d))) v (resting (stored g d t o) t')
+    tail b v loads = store_turns code g t t' d (with_value no_values 5 o1) o turn' sd pure value (late_stands 5 x b refl) (omega (arith, few, late_few 5 x b)) loads
+
+    by : (b : Bool) → is_near_slot x ≡ b → Runs words (cond b [] (bring 5 x) ++ (vote_words ++ (cond b (slot_load 5 x) [] ++ (code ++ voted_store 5 d)))) (resting g t) (resting (stored g d t o) t')
+    by true near = tail true (resting g t) (late_voted words (resting g t) 5 x o1 true near refl gx)
+    by false near =
+        let v : View = record { stage = g; tag = t; file = with_value no_values 5 o1 } in
+        runs_then (early_runs words (resting g t) 5 x o1 false refl refl refl turn gx) (tail false v (voted_none words v))
+
+one_voted_version : (words : List ℕ) (code : List Form) (g : Stage) (t t' : Tag) (x : Source) (d : ℕ) (o1 o : Option ℕ) → list_all is_pure code ≡ true → length code ≤ 28 → Leaves code o1 None o → IsVersion t → IsVersion t' →
+    GivesTurn g x t o1 → IsSlot g d → Runs words (voted_one code x d) (resting g t) (resting (stored g d t o) t')
+one_voted_version words code g t t' x d o1 o pure few leaves turn turn' gx sd = by (is_near d)
+  where
+    by : (b : Bool) → Runs words (cond b (near_one code x d) (version_of_one code x d)) (resting g t) (resting (stored g d t o) t')
+    by true = near_single words code g t t' x d o1 o pure few leaves turn turn' gx sd
+    by false = one_version words code g t t' x d o1 o pure leaves turn turn' gx sd
 
 -- ---- all three
 pub two_run : TwoAreVoted
 two_run words code g x y d o1 o2 o pure few leaves gx gy slots tx ty =
     let g1 = stored g d.one One o in
     let g2 = stored g1 d.two Two o in
-    runs_then (two_version words code g One Two x.one y.one d.one o1 o2 o pure few.one leaves tt gx.one gy.one slots.one)
-    (runs_then (two_version words code g1 Two Three x.two y.two d.two o1 o2 o pure few.two leaves tt (gives_stored g d.one Two One o o1 x.two gx.two tx.two_one)
+    runs_then (two_voted_version words code g One Two x.one y.one d.one o1 o2 o pure few leaves tt tt gx.one gy.one slots.one)
+    (runs_then (two_voted_version words code g1 Two Three x.two y.two d.two o1 o2 o pure few leaves tt tt (gives_stored g d.one Two One o o1 x.two gx.two tx.two_one)
     (gives_stored g d.one Two One o o2 y.two gy.two ty.two_one) (slot_after g d.two d.one One o slots.two))
-    (two_version words code g2 Three One x.three y.three d.three o1 o2 o pure few.three leaves tt
+    (two_voted_version words code g2 Three One x.three y.three d.three o1 o2 o pure few leaves tt tt
     (gives_stored g1 d.two Three Two o o1 x.three (gives_stored g d.one Three One o o1 x.three gx.three tx.three_one) tx.three_two)
     (gives_stored g1 d.two Three Two o o2 y.three (gives_stored g d.one Three One o o2 y.three gy.three ty.three_one) ty.three_two)
     (slot_after g1 d.three d.two Two o (slot_after g d.three d.one One o slots.three))))
@@ -274,10 +252,10 @@ pub one_runs : OneIsVoted
 one_runs words code g x d o1 o pure few leaves gx slots tx =
     let g1 = stored g d.one One o in
     let g2 = stored g1 d.two Two o in
-    runs_then (one_version words code g One Two x.one d.one o1 o pure few.one leaves tt gx.one slots.one)
-    (runs_then (one_version words code g1 Two Three x.two d.two o1 o pure few.two leaves tt (gives_stored g d.one Two One o o1 x.two gx.two tx.two_one)
+    runs_then (one_voted_version words code g One Two x.one d.one o1 o pure few leaves tt tt gx.one slots.one)
+    (runs_then (one_voted_version words code g1 Two Three x.two d.two o1 o pure few leaves tt tt (gives_stored g d.one Two One o o1 x.two gx.two tx.two_one)
     (slot_after g d.two d.one One o slots.two))
-    (one_version words code g2 Three One x.three d.three o1 o pure few.three leaves tt
+    (one_voted_version words code g2 Three One x.three d.three o1 o pure few leaves tt tt
     (gives_stored g1 d.two Three Two o o1 x.three (gives_stored g d.one Three One o o1 x.three gx.three tx.three_one) tx.three_two)
     (slot_after g1 d.three d.two Two o (slot_after g d.three d.one One o slots.three))))
 
@@ -285,19 +263,14 @@ one_runs words code g x d o1 o pure few leaves gx slots tx =
 in_time : (d x : Triple) → IsApart d x → IsReadInTime d (in_slots x)
 in_time d x apart = record { two_one = apart.two_one; three_one = apart.three_one; three_two = apart.three_two }
 
-pub operations_run : OperationsAreVoted
-operations_run words code g x y d o1 o2 o pure few leaves sx sy sd hx hy ax ay =
-    let short : 1 + 1 + length code ≤ 30 = omega arith in
-    two_run words code g (in_slots x) (in_slots y) d o1 o2 o pure (record { one = short; two = short; three = short }) leaves (triples_give g x o1 sx hx) (triples_give g y o2 sy hy) sd
-    (in_time d x ax) (in_time d y ay)
-
 sum_left : (a b : ℕ) → Leaves (ADDW 5 5 6 ∷ []) (Some a) (Some b) (Some (plus32 a b))
 unfolding with_value
 sum_left a b = refl
 
 pub additions_run : AdditionsAreVoted
 additions_run words g x y d a b sx sy sd hx hy ax ay =
-    operations_run words (ADDW 5 5 6 ∷ []) g x y d (Some a) (Some b) (Some (plus32 a b)) refl (lit≤ tt) (sum_left a b) sx sy sd hx hy ax ay
+    two_run words (ADDW 5 5 6 ∷ []) g (in_slots x) (in_slots y) d (Some a) (Some b) (Some (plus32 a b)) refl (lit≤ tt) (sum_left a b) (triples_give g x (Some a) sx hx) (triples_give g y (Some b) sy hy) sd
+    (in_time d x ax) (in_time d y ay)
 
 pub additions_short : AdditionsAreShort
-additions_short x y d = refl
+additions_short x y d nx ny nd = rw (nx.one, nx.two, nx.three, ny.one, ny.two, ny.three, nd.one, nd.two, nd.three) refl

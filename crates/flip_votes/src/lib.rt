@@ -5,7 +5,7 @@
 ghost use Rattle.flip_votes.specs.Votes.{VotedRunsJoin, VotedSlotsAreLoaded, VotedSlotsAreStored};
 ghost use Rattle.flip_votes.specs.Votes.{VotedComputingRuns, VotesServe};
 ghost use Rattle.flip_votes.specs.Accesses.{VersionsAreVoted};
-ghost use Rattle.flip_votes.specs.Versions.{TwoAreVoted, OneIsVoted, OperationsAreVoted};
+ghost use Rattle.flip_votes.specs.Versions.{TwoAreVoted, OneIsVoted};
 ghost use Rattle.flip_votes.specs.Versions.{AdditionsAreVoted, AdditionsAreShort};
 
 /// States that two sequences after a vote, one after the other, are one.
@@ -45,12 +45,8 @@ pub fn one_is_voted()
     ensures { OneIsVoted }
 {}
 
-/// States that the same is so of two values in slots, where the code has at most 28 words.
-pub fn operations_are_voted()
-    ensures { OperationsAreVoted }
-{}
-
-/// States that an addition of 32 bits is such an operation, of 18 words.
+/// States that an addition of 32 bits of values in slots is such an operation, and that it takes 18 words where all
+/// slots are near.
 pub fn additions_are_voted()
     ensures right { AdditionsAreVoted }
     ensures short { AdditionsAreShort }
