@@ -49,7 +49,7 @@ small = record { globals = []; functions = calling ∷ giving ∷ []; main = 0 }
 abbrev pub three_from : ℕ → Triple
 three_from n = record { one = n; two = n + 1; three = n + 2 }
 
--- a frame of sixteen slots: the return address, two values, two cells, and where the result waits
+-- a frame of sixteen slots: the return address, two values, room for cells, and where the result waits
 abbrev pub laid : FrameLayout
 laid = record { size = 16; places = λ id. three_from (1 + 3 * id); cells = λ id. three_from (7 + 3 * id); link = 0 }
 
