@@ -113,4 +113,5 @@ parts_for address v = parts_by 5 (unwrap_or (word_of address v) 0)
 
 -- the machine comes from the call to what follows in `main`, where the result is 7
 abbrev pub ACallIsDone : Type 0
-ACallIsDone = (address : ℕ → ℕ) → Arrives spread address 8388624 small_words with_seven (in_main 1 (Integer 32 7)) text_base 68 (text_base + 172)
+ACallIsDone = (address : ℕ → ℕ)
+    → Arrives spread address 8388624 small_words with_seven (in_main 1 (Integer 32 7)) text_base 68 (text_base + 172)

@@ -40,8 +40,8 @@ abbrev pub IsGivenBy : List Phi → ℕ → Type 0
 IsGivenBy [] id = ⊥
 IsGivenBy (x ∷ xs) id = (x.result ≡ id) ⊎ IsGivenBy xs id
 
--- a frame has cells of their own for the phis of a block, beside the slots of so many values and the return address; phis of different blocks may
--- share cells
+-- a frame has cells of their own for the phis of a block, beside the slots of so many values and the return address; phis of different
+-- blocks may share cells
 pub record AreGoodCells (l : FrameLayout) (values : ℕ) (phis : List Phi) : Type 0 where
   pub inside : (id : ℕ) → IsGivenBy phis id → AreInFrame l.size (l.cells id)
   pub different : (id : ℕ) → IsGivenBy phis id → AreDifferent (l.cells id)
@@ -49,9 +49,9 @@ pub record AreGoodCells (l : FrameLayout) (values : ℕ) (phis : List Phi) : Typ
   pub values_spared : (id other : ℕ) → IsGivenBy phis id → other < values → IsClear (l.cells id) (l.places other)
   pub link_spared : (id : ℕ) → IsGivenBy phis id → IsOther (l.cells id) l.link
 
--- a layout is good for a program: its frames are, and their cells for the phis of each block; that of each function of the program has a slot for the
--- return address in it; they are no larger than what an activation is counted as; and the stack of 8,388,608 bytes lies in the data above their first
--- two words
+-- a layout is good for a program: its frames are, and their cells for the phis of each block; that of each function of the program has
+-- a slot for the return address in it; they are no larger than what an activation is counted as; and the stack of 8,388,608 bytes lies in the data
+-- above their first two words
 pub record IsGoodLayout (p : Program) (l : Layout) (size : ℕ) : Type 0 where
   pub frames : (f : ℕ) → IsGoodFrame (l.frames f) (function_at p f).values
   pub cells : (f block : ℕ) → AreGoodCells (l.frames f) (function_at p f).values (block_in p f block).phis
