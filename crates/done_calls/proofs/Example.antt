@@ -3,7 +3,7 @@ use Rattle.std.proofs.Common.{◌≡◌, ◌≢◌, ◌≤◌, ◌<◌, ◌+◌,
 use Rattle.std.specs.Prelude.{pos, unwrap_or}
 use Rattle.std.proofs.lemmas.Bool.{cases_lt}
 use Rattle.ir_model.specs.Values.{Value, Integer, Poison}
-use Rattle.ir_model.specs.Programs.{Local, function_at}
+use Rattle.ir_model.specs.Programs.{Local, function_at, block_in}
 use Rattle.ir_model.specs.States.{State, Continues, entered}
 use Rattle.ir_model.specs.Steps.{act, step}
 use Rattle.rv_inst.specs.declared.instruction.Form.{Form}
@@ -17,7 +17,7 @@ use Rattle.flip_jumps.proofs.PlaceLaws.{goes_then}
 use Rattle.flip_guards.specs.Sources.{Part, Plus, Shifted, part_value, made}
 use Rattle.flip_copies.specs.Copies.{IsClear}
 use Rattle.flip_calls.specs.Calls.{entry_words}
-use Rattle.kept_states.specs.Layouts.{AreInFrame, IsGoodFrame, IsGoodLayout}
+use Rattle.kept_states.specs.Layouts.{FrameLayout, AreInFrame, IsGoodFrame, AreGoodCells, IsGoodLayout}
 use Rattle.kept_states.specs.Kept.{word_of, KeepsThree, KeepsState}
 use Rattle.kept_states.proofs.Stacks.{held_three}
 use Rattle.done_operations.specs.Sources.{MakeWords}
@@ -66,12 +66,7 @@ good_frame size n few large =
       inside = λ id lt. in_frame size (1 + 3 * id) (omega (arith, large id lt));
       different = λ id lt. three_differ (1 + 3 * id);
       apart = λ id other lt small ne. three_apart 1 id other ne;
-      cells_inside = λ id lt. in_frame size (7 + 3 * id) (omega (arith, large id lt));
-      cells_different = λ id lt. three_differ (7 + 3 * id);
-      cells_apart = λ id other lt small ne. three_apart 7 id other ne;
-      cells_beside = λ id other lt small. clear_down (7 + 3 * id) (1 + 3 * other) (omega arith);
       link_spared = λ id lt. spared (1 + 3 * id) (omega arith);
-      link_beside = λ id lt. spared (7 + 3 * id) (omega arith);
     }
   where
     spared : (k : ℕ) → 0 < k → IsOther (three_from k) 0
@@ -87,13 +82,31 @@ counted zero = lit≤ tt
 counted (suc zero) = lit≤ tt
 counted (suc (suc f)) = lit≤ tt
 
+-- no block has phis
+no_cells : (l : FrameLayout) (n : ℕ) → AreGoodCells l n []
+no_cells l n =
+    record {
+      inside = λ id given. absurd given;
+      different = λ id given. absurd given;
+      apart = λ id other given. absurd given;
+      values_spared = λ id other given. absurd given;
+      link_spared = λ id given. absurd given;
+    }
+
+no_phis : (f block : ℕ) → AreGoodCells (frame_by f) (function_at small f).values (block_in small f block).phis
+no_phis zero zero = no_cells (frame_by 0) 2
+no_phis zero (suc block) = no_cells (frame_by 0) 2
+no_phis (suc zero) zero = no_cells (frame_by 1) 1
+no_phis (suc zero) (suc block) = no_cells (frame_by 1) 1
+no_phis (suc (suc f)) block = no_cells (frame_by (suc (suc f))) 0
+
 linked : (f : ℕ) → f < 2 → (frame_by f).link < (frame_by f).size
 linked zero lt = lit≤ tt
 linked (suc zero) lt = lit≤ tt
 linked (suc (suc f)) lt = absurd (omega arith)
 
 good : IsGoodLayout small spread 8388624
-good = record { frames = good_frames; links = linked; counted = counted; room = lit≤ tt; within = lit≤ tt; small = lit≤ tt }
+good = record { frames = good_frames; cells = no_phis; links = linked; counted = counted; room = lit≤ tt; within = lit≤ tt; small = lit≤ tt }
 
 good_result : (n : ℕ) → n ≤ 2 → IsGoodResult laid n (three_from 13)
 good_result n few =

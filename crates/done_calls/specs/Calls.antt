@@ -47,7 +47,8 @@ abbrev pub called_at : FrameLayout → FrameLayout → (Value → List Part) →
 called_at caller callee parts xs offset from = target (jump_of from callee.size (argument_copies caller callee parts xs)) offset
 
 -- a state in which a call of a function of the program comes next: the arguments are there, and are no more than the function has values
-pub record AtCall (p : Program) (s : State) (f : ℕ) (result : Option ℕ) (xs : List Operand) (a : Activation) (rest : List Activation) : Type 0 where
+pub record AtCall (p : Program) (s : State) (f : ℕ) (result : Option ℕ) (xs : List Operand) (a : Activation) (rest : List Activation)
+    : Type 0 where
   pub stack : s.stack ≡ a ∷ rest
   pub next : instruction_at p a ≡ Some (record { result = result; action = Call f; operands = xs })
   pub function_there : f < length p.functions
@@ -55,12 +56,13 @@ pub record AtCall (p : Program) (s : State) (f : ℕ) (result : Option ℕ) (xs 
   pub few : length xs ≤ (function_at p f).values
   pub values : HaveValues p (a ∷ rest)
 
--- the words of a call and those of the entry of the function come to the word after the entry, and keep there the state in which the function has been
--- entered, where the layout has the word after the call's jump as the address of the return
+-- the words of a call and those of the entry of the function come to the word after the entry, and keep there the state in which the
+-- function has been entered, where the layout has the word after the call's jump as the address of the return
 abbrev pub CallsAreDone : Type 0
-CallsAreDone = (p : Program) (l : Layout) (address : ℕ → ℕ) (size : ℕ) (words : List ℕ) (parts : Value → List Part) (g : Stage) (s t : State)
-    (f : ℕ) (result : Option ℕ) (xs : List Operand) (a : Activation) (rest : List Activation) (from : ℕ) (offset : ℤ) → IsGoodLayout p l size
-    → MakeWords address parts → KeepsState l address size g s → AtCall p s f result xs a rest → step p s ≡ Continues t → IsWithinStack p t
+CallsAreDone = (p : Program) (l : Layout) (address : ℕ → ℕ) (size : ℕ) (words : List ℕ) (parts : Value → List Part) (g : Stage)
+    (s t : State) (f : ℕ) (result : Option ℕ) (xs : List Operand) (a : Activation) (rest : List Activation) (from : ℕ) (offset : ℤ)
+    → IsGoodLayout p l size → MakeWords address parts → KeepsState l address size g s
+    → AtCall p s f result xs a rest → step p s ≡ Continues t → IsWithinStack p t
     → IsPlaced words from (call_at (l.frames a.function) (l.frames f) parts xs offset)
     → IsPlaced words (called_at (l.frames a.function) (l.frames f) parts xs offset from) (entry_words (l.frames f).link)
     → back_of from (l.frames f).size (argument_copies (l.frames a.function) (l.frames f) parts xs) ≡ l.back a.function a.block a.position

@@ -49,7 +49,7 @@ small = record { globals = []; functions = calling ∷ giving ∷ []; main = 0 }
 abbrev pub three_from : ℕ → Triple
 three_from n = record { one = n; two = n + 1; three = n + 2 }
 
--- a frame of sixteen slots: the return address, two values, two cells, and where the result waits
+-- a frame of sixteen slots: the return address, two values, room for cells, and where the result waits
 abbrev pub laid : FrameLayout
 laid = record { size = 16; places = λ id. three_from (1 + 3 * id); cells = λ id. three_from (7 + 3 * id); link = 0 }
 
@@ -113,4 +113,5 @@ parts_for address v = parts_by 5 (unwrap_or (word_of address v) 0)
 
 -- the machine comes from the call to what follows in `main`, where the result is 7
 abbrev pub ACallIsDone : Type 0
-ACallIsDone = (address : ℕ → ℕ) → Arrives spread address 8388624 small_words with_seven (in_main 1 (Integer 32 7)) text_base 68 (text_base + 172)
+ACallIsDone = (address : ℕ → ℕ)
+    → Arrives spread address 8388624 small_words with_seven (in_main 1 (Integer 32 7)) text_base 68 (text_base + 172)

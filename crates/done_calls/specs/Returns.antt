@@ -73,25 +73,25 @@ pub record AtReturn (p : Program) (s : State) (given : Option Operand) (a b : Ac
 abbrev pub left_by : Activation → Activation → List Activation → State → State
 left_by a b rest s = record s { stack = b ∷ rest; memory = all_ended a.owned s.memory }
 
--- a stage keeps a state to which a function has returned a value: its frame is still the innermost one, and has the value where results wait
-pub record KeepsResult (l : Layout) (address : ℕ → ℕ) (size : ℕ) (results : ℕ → Triple) (g : Stage) (s : State) (f : ℕ) (v : Value)
-    : Type 0 where
+-- a stage keeps a state to which a function has returned a value: its frame is still the innermost one, and has the value where it waits
+pub record KeepsResult (l : Layout) (address : ℕ → ℕ) (size : ℕ) (results : ℕ → Triple) (g : Stage) (s : State) (f : ℕ)
+    (v : Value) : Type 0 where
   pub value : KeepsThree g.slots g.base (results f) (word_of address v)
   pub caller : KeepsState l address size (based_at g (g.base + (l.frames f).size)) s
 
 -- the machine goes to the words after a call, where it keeps the result
-pub record GivesBack (l : Layout) (address : ℕ → ℕ) (size : ℕ) (words : List ℕ) (results : ℕ → Triple) (g : Stage) (s : State) (f : ℕ) (v : Value)
-    (from count to : ℕ) : Type 0 where
+pub record GivesBack (l : Layout) (address : ℕ → ℕ) (size : ℕ) (words : List ℕ) (results : ℕ → Triple) (g : Stage) (s : State)
+    (f : ℕ) (v : Value) (from count to : ℕ) : Type 0 where
   pub stage : Stage
   pub kept : KeepsResult l address size results stage s f v
   pub goes : Goes words (resting g One) from count (resting stage One) to
 
 -- the words of a return do that, where the address of the words after the call is even
 abbrev pub FunctionsReturn : Type 0
-FunctionsReturn = (p : Program) (l : Layout) (address : ℕ → ℕ) (size : ℕ) (words : List ℕ) (parts : Value → List Part) (results : ℕ → Triple) (g : Stage)
-    (s : State) (given : Option Operand) (a b : Activation) (rest : List Activation) (from : ℕ) → IsGoodLayout p l size → AreGoodResults p l results
-    → MakeWords address parts → KeepsState l address size g s → AtReturn p s given a b rest → IsWithinStack p s
-    → l.back b.function b.block b.position % 2 ≡ 0
+FunctionsReturn = (p : Program) (l : Layout) (address : ℕ → ℕ) (size : ℕ) (words : List ℕ) (parts : Value → List Part)
+    (results : ℕ → Triple) (g : Stage) (s : State) (given : Option Operand) (a b : Activation) (rest : List Activation) (from : ℕ)
+    → IsGoodLayout p l size → AreGoodResults p l results → MakeWords address parts → KeepsState l address size g s
+    → AtReturn p s given a b rest → IsWithinStack p s → l.back b.function b.block b.position % 2 ≡ 0
     → IsPlaced words from (return_at (l.frames a.function) parts (results a.function) given)
     → GivesBack l address size words results g (left_by a b rest s) a.function (returned a.values given) from
     (length (return_at (l.frames a.function) parts (results a.function) given)) (l.back b.function b.block b.position)
@@ -129,12 +129,13 @@ ResultsAreDone = (p : Program) (l : Layout) (address : ℕ → ℕ) (size : ℕ)
 -- ---- both
 -- the words of a return and those after the call do the step of the return
 abbrev pub ReturnsAreDone : Type 0
-ReturnsAreDone = (p : Program) (l : Layout) (address : ℕ → ℕ) (size : ℕ) (words : List ℕ) (parts : Value → List Part) (results : ℕ → Triple) (g : Stage)
-    (s t : State) (given : Option Operand) (result : Option ℕ) (xs : List Operand) (a b : Activation) (rest : List Activation) (from : ℕ)
-    → IsGoodLayout p l size → AreGoodResults p l results → MakeWords address parts → KeepsState l address size g s → AtReturn p s given a b rest
-    → WaitsFor p b a.function result xs → IsWithinStack p s → step p s ≡ Continues t
-    → IsPlaced words from (return_at (l.frames a.function) parts (results a.function) given)
-    → IsPlaced words (l.back b.function b.block b.position) (after_at (l.frames b.function) (l.frames a.function) (results a.function) result)
+ReturnsAreDone = (p : Program) (l : Layout) (address : ℕ → ℕ) (size : ℕ) (words : List ℕ) (parts : Value → List Part)
+    (results : ℕ → Triple) (g : Stage) (s t : State) (given : Option Operand) (result : Option ℕ) (xs : List Operand) (a b : Activation)
+    (rest : List Activation) (from : ℕ) → IsGoodLayout p l size → AreGoodResults p l results → MakeWords address parts
+    → KeepsState l address size g s → AtReturn p s given a b rest → WaitsFor p b a.function result xs
+    → IsWithinStack p s → step p s ≡ Continues t → IsPlaced words from (return_at (l.frames a.function) parts (results a.function) given)
+    → IsPlaced words (l.back b.function b.block b.position)
+    (after_at (l.frames b.function) (l.frames a.function) (results a.function) result)
     → Arrives l address size words g t from
     (length (return_at (l.frames a.function) parts (results a.function) given)
     + length (after_at (l.frames b.function) (l.frames a.function) (results a.function) result))

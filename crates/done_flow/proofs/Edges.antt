@@ -31,7 +31,7 @@ use Rattle.flip_copies.proofs.EdgeLaws.{edges_run, edges_leave}
 use Rattle.flip_jumps.specs.Jumps.{target}
 use Rattle.flip_jumps.specs.Places.{StageSaysLess, Goes}
 use Rattle.flip_jumps.proofs.PlaceLaws.{goes_then, runs_go, jumps_go, stage_forgotten}
-use Rattle.kept_states.specs.Layouts.{FrameLayout, Layout, AreInFrame, IsGoodFrame, IsGoodLayout}
+use Rattle.kept_states.specs.Layouts.{FrameLayout, Layout, AreInFrame, IsGoodFrame, IsGivenBy, AreGoodCells, IsGoodLayout}
 use Rattle.kept_states.specs.Kept.{word_of, KeepsThree, KeepsStack, KeepsState}
 use Rattle.kept_states.specs.Laws.{HaveValues, KeepsEntry}
 use Rattle.kept_states.proofs.Stacks.{room, values_held, held_three}
@@ -146,72 +146,77 @@ all_found f values from [] are = tt
 all_found f values from (x ∷ xs) are = (first_phi f x xs, with_first f x xs xs are.2 (all_found f values from xs are.3))
 
 -- ---- an edge of a frame
-module _ (address : ℕ → ℕ) (parts : Value → List Part) (l : FrameLayout) (n : ℕ) (good : IsGoodFrame l n) (from : ℕ) where
+module _ (address : ℕ → ℕ) (parts : Value → List Part) (l : FrameLayout) (n : ℕ) (good : IsGoodFrame l n) (all : List Phi)
+    (fine : AreGoodCells l n all) (from : ℕ) where
+  -- phis of the block whose cells these are
+  abbrev AreOf : List Phi → Type 0
+  AreOf phis = AllByRecursion (λ (x : Phi). IsGivenBy all x.result) phis
+
   abbrev inputs_of : List Phi → List PhiInput
   inputs_of phis = map (phi_input l parts from) phis
 
   -- an operand is read from none of the slots of a cell
-  unread : (d : ℕ) (x : Operand) → d < n → IsWithin n x
+  unread : (d : ℕ) (x : Operand) → IsGivenBy all d → IsWithin n x
       → IsUnread (l.cells d) (source_of l parts x).one × IsUnread (l.cells d) (source_of l parts x).two × IsUnread (l.cells d) (source_of l parts x).three
-  unread d (Local j) lt there =
-      let clear : IsClear (l.cells d) (l.places j) = good.cells_beside d j lt there in (
+  unread d (Local j) given there =
+      let clear : IsClear (l.cells d) (l.places j) = fine.values_spared d j given there in (
         record { one = clear.one.one; two = clear.one.two; three = clear.one.three },
         record { one = clear.two.one; two = clear.two.two; three = clear.two.three },
         record { one = clear.three.one; two = clear.three.two; three = clear.three.three },
       )
-  unread d (Fixed v) lt there = (record { one = tt; two = tt; three = tt }, record { one = tt; two = tt; three = tt }, record { one = tt; two = tt; three = tt })
+  unread d (Fixed v) given there = (record { one = tt; two = tt; three = tt }, record { one = tt; two = tt; three = tt }, record { one = tt; two = tt; three = tt })
 
-  cells_alone : (d : ℕ) (phis : List Phi) → d < n → AllByRecursion (λ (y : Phi). y.result ≢ d) phis → ArePhis n from phis
+  cells_alone : (d : ℕ) (phis : List Phi) → IsGivenBy all d → AllByRecursion (λ (y : Phi). y.result ≢ d) phis → ArePhis n from phis → AreOf phis
       → AllLeaveAlone (l.cells d) (to_cells (inputs_of phis))
-  cells_alone d [] lt apart are = tt
-  cells_alone d (x ∷ xs) lt apart are =
-      let free = unread d (input_from from x.inputs) lt are.1 in (
-        record { one = free.0; two = free.1; three = free.2; written = good.cells_apart d x.result lt are.0 (λ e. apart.0 (sym e)) },
-        cells_alone d xs lt apart.1 are.3,
+  cells_alone d [] given apart are own = tt
+  cells_alone d (x ∷ xs) given apart are own =
+      let free = unread d (input_from from x.inputs) given are.1 in (
+        record { one = free.0; two = free.1; three = free.2; written = fine.apart d x.result given own.0 (λ e. apart.0 (sym e)) },
+        cells_alone d xs given apart.1 are.3 own.1,
       )
 
-  cells_fit : (phis : List Phi) → ArePhis n from phis → Compatible (to_cells (inputs_of phis))
-  cells_fit [] are = tt
-  cells_fit (x ∷ xs) are =
-      let free = unread x.result (input_from from x.inputs) are.0 are.1 in (
-        good.cells_different x.result are.0,
+  cells_fit : (phis : List Phi) → ArePhis n from phis → AreOf phis → Compatible (to_cells (inputs_of phis))
+  cells_fit [] are own = tt
+  cells_fit (x ∷ xs) are own =
+      let free = unread x.result (input_from from x.inputs) own.0 are.1 in (
+        fine.different x.result own.0,
         record { two_one = free.1.one; three_one = free.2.one; three_two = free.2.two },
-        cells_alone x.result xs are.0 are.2 are.3,
-        cells_fit xs are.3,
+        cells_alone x.result xs own.0 are.2 are.3 own.1,
+        cells_fit xs are.3 own.1,
       )
 
   -- a cell is none of the slots of a value
-  cell_unread : (d j : ℕ) → d < n → j < n → IsClear (l.places d) (l.cells j)
-  cell_unread d j ld lj =
-      let clear : IsClear (l.cells j) (l.places d) = good.cells_beside j d lj ld in
+  cell_unread : (d j : ℕ) → d < n → IsGivenBy all j → IsClear (l.places d) (l.cells j)
+  cell_unread d j lt given =
+      let clear : IsClear (l.cells j) (l.places d) = fine.values_spared j d given lt in
       record {
         one = record { one = λ e. clear.one.one (sym e); two = λ e. clear.two.one (sym e); three = λ e. clear.three.one (sym e) };
         two = record { one = λ e. clear.one.two (sym e); two = λ e. clear.two.two (sym e); three = λ e. clear.three.two (sym e) };
         three = record { one = λ e. clear.one.three (sym e); two = λ e. clear.two.three (sym e); three = λ e. clear.three.three (sym e) };
       }
 
-  places_alone : (d : ℕ) (phis : List Phi) → d < n → AllByRecursion (λ (y : Phi). y.result ≢ d) phis → ArePhis n from phis
+  places_alone : (d : ℕ) (phis : List Phi) → d < n → AllByRecursion (λ (y : Phi). y.result ≢ d) phis → ArePhis n from phis → AreOf phis
       → AllLeaveAlone (l.places d) (from_cells (inputs_of phis))
-  places_alone d [] lt apart are = tt
-  places_alone d (x ∷ xs) lt apart are =
-      let clear : IsClear (l.places d) (l.cells x.result) = cell_unread d x.result lt are.0 in (
+  places_alone d [] lt apart are own = tt
+  places_alone d (x ∷ xs) lt apart are own =
+      let clear : IsClear (l.places d) (l.cells x.result) = cell_unread d x.result lt own.0 in (
         record {
           one = record { one = clear.one.one; two = clear.one.two; three = clear.one.three };
           two = record { one = clear.two.one; two = clear.two.two; three = clear.two.three };
           three = record { one = clear.three.one; two = clear.three.two; three = clear.three.three };
           written = good.apart d x.result lt are.0 (λ e. apart.0 (sym e));
         },
-        places_alone d xs lt apart.1 are.3,
+        places_alone d xs lt apart.1 are.3 own.1,
       )
 
-  places_fit : (phis : List Phi) → ArePhis n from phis → Compatible (from_cells (inputs_of phis))
-  places_fit [] are = tt
-  places_fit (x ∷ xs) are =
-      let clear : IsClear (l.places x.result) (l.cells x.result) = cell_unread x.result x.result are.0 are.0 in (
+  places_fit : (phis : List Phi) → ArePhis n from phis → AreOf phis → Compatible (from_cells (inputs_of phis))
+  places_fit [] are own = tt
+  places_fit (x ∷ xs) are own =
+      let clear : IsClear (l.places x.result) (l.cells x.result) = cell_unread x.result x.result are.0 own.0 in (
         good.different x.result are.0,
         record { two_one = clear.two.one; three_one = clear.three.one; three_two = clear.three.two },
-        places_alone x.result xs are.0 are.2 are.3,
-        places_fit xs are.3,
+        places_alone x.result xs are.0 are.2 are.3 own.1,
+        places_fit xs are.3 own.1,
       )
 
   -- ---- slots that no copy of the edge writes
@@ -233,6 +238,11 @@ module _ (address : ℕ → ℕ) (parts : Value → List Part) (l : FrameLayout)
   each_phi P [] are each = tt
   each_phi P (x ∷ xs) are each = (each x are.0, each_phi P xs are.3 each)
 
+  -- and what each has of which the cells are
+  each_own : (P : Phi → Type 0) (phis : List Phi) → AreOf phis → ((x : Phi) → IsGivenBy all x.result → P x) → AllByRecursion P phis
+  each_own P [] own each = tt
+  each_own P (x ∷ xs) own each = (each x own.0, each_own P xs own.1 each)
+
   and_apart : (P Q : Phi → Type 0) (phis : List Phi) → ArePhis n from phis → AllByRecursion Q phis → ((x : Phi) → x.result < n → Q x → P x) → AllByRecursion P phis
   and_apart P Q [] are all each = tt
   and_apart P Q (x ∷ xs) are all each = (each x are.0 all.0, and_apart P Q xs are.3 all.1 each)
@@ -253,27 +263,28 @@ module _ (address : ℕ → ℕ) (parts : Value → List Part) (l : FrameLayout)
         triples_give g (l.places id) (word_of address (value_of values (Local id))) (triple_slots g l n id good there reach) (held id (omega arith))
     is_given (Fixed v) there = record { one = refl; two = refl; three = refl }
 
-    cell_slots : (id : ℕ) → id < n → AreSlots g (l.cells id)
-    cell_slots id lt =
-        let inside = good.cells_inside id lt in
+    cell_slots : (id : ℕ) → IsGivenBy all id → AreSlots g (l.cells id)
+    cell_slots id given =
+        let inside = fine.inside id given in
         record { one = reach (l.cells id).one inside.one; two = reach (l.cells id).two inside.two; three = reach (l.cells id).three inside.three }
 
-    can : (v : ℕ → Option ℕ) (phis : List Phi) → ArePhis n from phis
+    can : (v : ℕ → Option ℕ) (phis : List Phi) → ArePhis n from phis → AreOf phis
         → AllByRecursion (λ (x : Phi). v x.result ≡ given_of address parts values (input_from from x.inputs)) phis → CanCopy g (to_cells (inputs_of phis)) v
-    can v [] are found = tt
-    can v (x ∷ xs) are found = (
+    can v [] are own found = tt
+    can v (x ∷ xs) are own found = (
       subst (IsGiven g (source_of l parts (input_from from x.inputs))) (sym found.0) (is_given (input_from from x.inputs) are.1),
-      cell_slots x.result are.0,
-      can v xs are.3 found.1,
+      cell_slots x.result own.0,
+      can v xs are.3 own.1 found.1,
     )
 
     in_reach : (phis : List Phi) → ArePhis n from phis → PlacesAreSlots g (inputs_of phis)
     in_reach [] are = tt
     in_reach (x ∷ xs) are = (triple_slots g l n x.result good are.0 reach, in_reach xs are.3)
 
-    is_edge : (v : ℕ → Option ℕ) (phis : List Phi) → ArePhis n from phis
+    is_edge : (v : ℕ → Option ℕ) (phis : List Phi) → ArePhis n from phis → AreOf phis
         → AllByRecursion (λ (x : Phi). v x.result ≡ given_of address parts values (input_from from x.inputs)) phis → IsEdge g (inputs_of phis) v
-    is_edge v phis are found = record { inputs = can v phis are found; places = in_reach phis are; cells = cells_fit phis are; phis = places_fit phis are }
+    is_edge v phis are own found =
+        record { inputs = can v phis are own found; places = in_reach phis are; cells = cells_fit phis are own; phis = places_fit phis are own }
 
   -- ---- what phis have after the edge
   set_three : (h : Stage) (base : ℕ) (v : ℕ → Option ℕ) (f : Phi → Option ℕ) (phis : List Phi) → h.base ≡ base → ArePhis n from phis
@@ -289,6 +300,15 @@ module _ (address : ℕ → ℕ) (parts : Value → List Part) (l : FrameLayout)
     set_three h base v f xs same are.3 set.1 found.1,
   )
 
+-- the phis of a block are given by it
+given_later : (y : Phi) (ys xs : List Phi) → AllByRecursion (λ (x : Phi). IsGivenBy ys x.result) xs → AllByRecursion (λ (x : Phi). IsGivenBy (y ∷ ys) x.result) xs
+given_later y ys [] are = tt
+given_later y ys (x ∷ xs) are = (inr are.0, given_later y ys xs are.1)
+
+all_given : (xs : List Phi) → AllByRecursion (λ (x : Phi). IsGivenBy xs x.result) xs
+all_given [] = tt
+all_given (x ∷ xs) = (inl refl, given_later x xs xs (all_given xs))
+
 -- ---- the edge
 pub right_of : (address : ℕ → ℕ) (parts : Value → List Part) (values : List Value) → MakeWords address parts → (x : Operand) (w : ℕ)
     → word_of address (value_of values x) ≡ Some w → given_of address parts values x ≡ Some w
@@ -302,6 +322,9 @@ edges p l address size words parts g s a rest to place offset good makes kept st
     let phis : List Phi = (block_in p a.function to).phis in
     let many : length a.values ≡ (function_at p a.function).values = have.0 in
     let frame : IsGoodFrame lay (length a.values) = subst (IsGoodFrame lay) (sym many) (good.frames a.function) in
+    let fine : AreGoodCells lay (length a.values) (block_in p a.function to).phis =
+    subst (λ (m : ℕ). AreGoodCells lay m (block_in p a.function to).phis) (sym many) (good.cells a.function to) in
+    let own : AllByRecursion (λ (x : Phi). IsGivenBy (block_in p a.function to).phis x.result) (block_in p a.function to).phis = all_given phis in
     let roomy = room p l address size g s a rest good kept stack within in
     let frames : KeepsStack l address g.slots g.base (a ∷ rest) = subst (KeepsStack l address g.slots g.base) stack kept.stack in
     let xs : List PhiInput = map (phi_input lay parts a.block) phis in
@@ -311,7 +334,7 @@ edges p l address size words parts g s a rest to place offset good makes kept st
     let w : ℕ → Option ℕ = by_phi k phis in
     let held = λ (id : ℕ) (lt : id < length a.values). values_held l address size g s a rest id kept stack lt in
     let edge : IsEdge g xs (by_phi f phis) =
-    is_edge address parts lay n frame a.block g a.values refl makes roomy.2 held v phis are (all_found f n a.block phis are) in
+    is_edge address parts lay n frame phis fine a.block g a.values refl makes roomy.2 held v phis are own (all_found f n a.block phis are) in
     let h : Stage = entered g xs (by_phi k phis) in
     let less : StageSaysLess (entered g xs (by_phi f phis)) (entered g xs (by_phi k phis)) =
     copied_says (copied g (to_cells xs) v) (copied g (to_cells xs) w) (from_cells xs) v w
@@ -320,36 +343,37 @@ edges p l address size words parts g s a rest to place offset good makes kept st
     let same = edges_leave g xs w in
     let stays : (j : ℕ) → AllByRecursion (λ (x : Phi). IsOther (lay.cells x.result) j) phis → AllByRecursion (λ (x : Phi). IsOther (lay.places x.result) j) phis
     → (entered g xs (by_phi k phis)).slots (g.base + j) ≡ g.slots (g.base + j) =
-    λ j cells places. same.slots (g.base + j) (spared address parts lay n frame a.block g.base j phis cells places) in
+    λ j cells places. same.slots (g.base + j) (spared address parts lay n frame phis fine a.block g.base j phis cells places) in
     let set : AreSet (entered g xs (by_phi k phis)) (from_cells xs) (by_phi k phis) =
-    goals_are_set (copied g (to_cells xs) w) (from_cells xs) w (places_fit address parts lay n frame a.block phis are) in
+    goals_are_set (copied g (to_cells xs) w) (from_cells xs) w (places_fit address parts lay n frame phis fine a.block phis are own) in
     let entry : KeepsEntry lay address g.slots (entered g xs (by_phi k phis)).slots g.base a phis = record {
-      phis_are = set_three address parts lay n frame a.block (entered g xs (by_phi k phis)) g.base w k phis same.base are set (all_found k n a.block phis are);
+      phis_are = set_three address parts lay n frame phis fine a.block (entered g xs (by_phi k phis)) g.base w k phis same.base are set (all_found k n a.block phis are);
       others_are = λ id lt apart.
           let x : Triple = lay.places id in
-          let own = frames.0 id lt in
-          let cells : (m : ℕ) → ((d : ℕ) → d < n → IsOther (lay.cells d) m) → AllByRecursion (λ (y : Phi). IsOther (lay.cells y.result) m) phis =
-          λ m other. each_phi address parts lay n frame a.block (λ (y : Phi). IsOther (lay.cells y.result) m) phis are (λ y small. other y.result small) in
+          let before = frames.0 id lt in
+          let cells : (m : ℕ) → ((d : ℕ) → IsGivenBy phis d → IsOther (lay.cells d) m) → AllByRecursion (λ (y : Phi). IsOther (lay.cells y.result) m) phis =
+          λ m other. each_own address parts lay n frame phis fine a.block (λ (y : Phi). IsOther (lay.cells y.result) m) phis own (λ y given. other y.result given) in
           let places : (m : ℕ) → ((d : ℕ) → d < n → d ≢ id → IsOther (lay.places d) m) → AllByRecursion (λ (y : Phi). IsOther (lay.places y.result) m) phis =
-          λ m other. and_apart address parts lay n frame a.block (λ (y : Phi). IsOther (lay.places y.result) m) (λ (y : Phi). y.result ≢ id) phis are apart
+          λ m other. and_apart address parts lay n frame phis fine a.block (λ (y : Phi). IsOther (lay.places y.result) m) (λ (y : Phi). y.result ≢ id) phis are apart
           (λ y small ne. other y.result small ne) in
           record {
-            one = stays x.one (cells x.one (λ d small. (frame.cells_beside d id small lt).one)) (places x.one (λ d small ne. (frame.apart d id small lt ne).one)) ∙ own.one;
-            two = stays x.two (cells x.two (λ d small. (frame.cells_beside d id small lt).two)) (places x.two (λ d small ne. (frame.apart d id small lt ne).two)) ∙ own.two;
-            three = stays x.three (cells x.three (λ d small. (frame.cells_beside d id small lt).three)) (places x.three (λ d small ne. (frame.apart d id small lt ne).three))
-                ∙ own.three;
+            one = stays x.one (cells x.one (λ d given. (fine.values_spared d id given lt).one)) (places x.one (λ d small ne. (frame.apart d id small lt ne).one)) ∙ before.one;
+            two = stays x.two (cells x.two (λ d given. (fine.values_spared d id given lt).two)) (places x.two (λ d small ne. (frame.apart d id small lt ne).two)) ∙ before.two;
+            three = stays x.three (cells x.three (λ d given. (fine.values_spared d id given lt).three)) (places x.three (λ d small ne. (frame.apart d id small lt ne).three))
+                ∙ before.three;
           };
       link_is = stays lay.link
-          (each_phi address parts lay n frame a.block (λ (y : Phi). IsOther (lay.cells y.result) lay.link) phis are (λ y small. frame.link_beside y.result small))
-          (each_phi address parts lay n frame a.block (λ (y : Phi). IsOther (lay.places y.result) lay.link) phis are (λ y small. frame.link_spared y.result small));
+          (each_own address parts lay n frame phis fine a.block (λ (y : Phi). IsOther (lay.cells y.result) lay.link) phis own (λ y given. fine.link_spared y.result given))
+          (each_phi address parts lay n frame phis fine a.block (λ (y : Phi). IsOther (lay.places y.result) lay.link) phis are (λ y small. frame.link_spared y.result small));
       above_are = λ i le.
           let j : ℕ = i - g.base in
           let at : g.base + j ≡ i = omega arith in
           let far : lay.size ≤ j = omega arith in
           subst (λ (m : ℕ). (entered g xs (by_phi k phis)).slots m ≡ g.slots m) at
           (stays j
-          (each_phi address parts lay n frame a.block (λ (y : Phi). IsOther (lay.cells y.result) j) phis are (λ y small. past address parts lay n frame a.block (lay.cells y.result) j (frame.cells_inside y.result small) far))
-          (each_phi address parts lay n frame a.block (λ (y : Phi). IsOther (lay.places y.result) j) phis are (λ y small. past address parts lay n frame a.block (lay.places y.result) j (frame.inside y.result small) far)));
+          (each_own address parts lay n frame phis fine a.block (λ (y : Phi). IsOther (lay.cells y.result) j) phis own
+          (λ y given. past address parts lay n frame phis fine a.block (lay.cells y.result) j (fine.inside y.result given) far))
+          (each_phi address parts lay n frame phis fine a.block (λ (y : Phi). IsOther (lay.places y.result) j) phis are (λ y small. past address parts lay n frame phis fine a.block (lay.places y.result) j (frame.inside y.result small) far)));
     } in
     let later : KeepsStack l address (entered g xs (by_phi k phis)).slots g.base (at_block p to a ∷ rest) =
     blocks p l address g.slots (entered g xs (by_phi k phis)).slots g.base to a rest frames entry in

@@ -28,7 +28,8 @@ version_of_choice m x y d = bring 5 m ++ (bring 6 x ++ (bring 7 y ++ (select_cod
 -- all three versions
 abbrev pub choice_words : fetching.Operand → fetching.Operand → fetching.Operand → Triple → List Form
 choice_words m x y d =
-    version_of_choice m.one x.one y.one d.one ++ (version_of_choice m.two x.two y.two d.two ++ version_of_choice m.three x.three y.three d.three)
+    version_of_choice m.one x.one y.one d.one
+    ++ (version_of_choice m.two x.two y.two d.two ++ version_of_choice m.three x.three y.three d.three)
 
 -- the words of a choice in a frame
 abbrev pub choice_at : FrameLayout → (Value → List Part) → Operand → Operand → Operand → ℕ → List Form
@@ -47,8 +48,8 @@ pub record AtChoice (p : Program) (s : State) (a : Activation) (rest : List Acti
 
 -- the words of a choice, of integers or of addresses, do its step
 abbrev pub SelectsAreDone : Type 0
-SelectsAreDone = (p : Program) (l : Layout) (address : ℕ → ℕ) (size : ℕ) (words : List ℕ) (parts : Value → List Part) (g : Stage) (s t : State)
-    (a : Activation) (rest : List Activation) (c x y : Operand) (id from : ℕ) → IsGoodLayout p l size → MakeWords address parts
-    → KeepsState l address size g s → AtChoice p s a rest c x y id → IsWithinStack p s → step p s ≡ Continues t
+SelectsAreDone = (p : Program) (l : Layout) (address : ℕ → ℕ) (size : ℕ) (words : List ℕ) (parts : Value → List Part) (g : Stage)
+    (s t : State) (a : Activation) (rest : List Activation) (c x y : Operand) (id from : ℕ) → IsGoodLayout p l size
+    → MakeWords address parts → KeepsState l address size g s → AtChoice p s a rest c x y id → IsWithinStack p s → step p s ≡ Continues t
     → IsPlaced words from (choice_at (l.frames a.function) parts c x y id)
     → Reaches l address size words g t from (length (choice_at (l.frames a.function) parts c x y id))
