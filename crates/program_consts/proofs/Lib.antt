@@ -1,0 +1,5 @@
+pub mod Numbered
+pub mod Stepped
+pub mod Lengths
+pub mod Sized
+pub mod Valued

@@ -1,0 +1,3 @@
+pub mod Rooms
+pub mod Walks
+pub mod Constants
