@@ -4,7 +4,9 @@
 //! steps from a global is found in time by its text.
 #![tactic(auto)]
 
+mod contents;
 mod indices;
+mod pieces;
 mod rooms;
 mod values;
 mod walks;
