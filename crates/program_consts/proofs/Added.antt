@@ -1,13 +1,11 @@
 -- Bytes that are added to pieces.
-use Rattle.std.proofs.Common.{◌≡◌, ◌<◌, ◌≤◌, ℕ, zero, suc, ◌+◌, List, [], ◌∷◌, ◌++◌, map, length, arith, refl, sym, ap, ap₂, subst, ◌∙◌, append_assoc, append-nil, replicate, take}
-use Rattle.std.specs.List.{AllByRecursion}
+use Rattle.std.proofs.Common.{◌≡◌, ◌≤◌, ℕ, zero, suc, List, [], ◌∷◌, ◌++◌, arith, refl, sym, ap, ap₂, subst, ◌∙◌, append_assoc, append-nil, replicate, take}
 use Rattle.std.specs.Int.{byte_at, bytes_low_first}
 use Rattle.std.proofs.lemmas.Grind.{flat_map-append}
-use Rattle.std.proofs.lemmas.List.{map-append}
-use Rattle.ir_model.specs.Values.{Cell, Unknown, Byte}
+use Rattle.ir_model.specs.Values.{Cell}
 use Rattle.ir_program.specs.Bytes.{HasByte}
 use Rattle.program_tables.specs.declared.program.Piece.{Piece}
-use Rattle.program_tables.specs.Shapes.{piece_cells, pieces_cells}
+use Rattle.program_tables.specs.Shapes.{piece_cells}
 use Rattle.program_consts.specs.declared.pieces.Pieces.{Pieces}
 use Rattle.program_consts.specs.Pieces.{AreBytes, HoldsCells, HasCells}
 

@@ -1,20 +1,19 @@
 -- Constants that fill arrays and structures, by their parts.
-use Rattle.std.proofs.Common.{◌≡◌, ◌<◌, ◌≤◌, ℕ, zero, suc, ◌+◌, ◌-◌, ◌*◌, Bool, List, [], ◌∷◌, ◌++◌, map, drop, length, get_or, arith, refl, sym, ap, ap₂, subst, ◌∙◌, append_assoc}
-use Rattle.std.specs.List.{AllByRecursion}
+use Rattle.std.proofs.Common.{◌≡◌, ◌<◌, ◌≤◌, ℕ, zero, suc, ◌+◌, Bool, List, [], ◌∷◌, ◌++◌, map, drop, length, get_or, arith, refl, sym, ap, ap₂, subst, ◌∙◌, append_assoc}
 use Rattle.std.proofs.lemmas.List.{drop_more, drop_all}
-use Rattle.ir_tree.specs.Shape.{TyShape, TyShapes, array, structure, no_types, types, ConstShape, elements, fields, TypedShape, typed, TypedShapes, no_values, values, typed_row, NamedTyShape, ModuleShape}
+use Rattle.ir_tree.specs.Shape.{TyShape, TyShapes, array, structure, no_types, types, elements, fields, TypedShape, typed, typed_row, NamedTyShape, ModuleShape}
 use Rattle.ir_tree.specs.ShapeOf.{const_shape, typed_shape, ty_shape}
 use Rattle.ir_tree.specs.declared.types.Typed.{Typed, out-Typed}
 use Rattle.ir_layout.specs.declared.sizes.Layout.{Layout}
-use Rattle.ir_layout.specs.Layout.{most_size, next_multiple, array_layout, structure_layout, field_start, field_end, fields_end, fields_align}
-use Rattle.ir_layout.specs.Rules.{LaidBy, HasLayout, HaveLayouts, IsSized}
+use Rattle.ir_layout.specs.Layout.{most_size, next_multiple, field_end, fields_end, fields_align}
+use Rattle.ir_layout.specs.Rules.{LaidBy, HasLayout, HaveLayouts}
 use Rattle.ir_layout.proofs.Composed.{array_composed, structure_composed, row_composed}
 use Rattle.ir_layout.proofs.Found.{next_grows, end_grows}
 use Rattle.ir_rules.specs.Constants.{HasConst, HaveElements, HaveFields, HasTyped}
 use Rattle.ir_check_consts.proofs.Shapes.{typed_is}
 use Rattle.ir_model.specs.Values.{Cell}
 use Rattle.ir_program.specs.Sizes.{layout_of, ty_size}
-use Rattle.ir_program.specs.Constants.{stated_ty, gap_before, end_of, const_cells, typed_cells, elements_cells, fields_cells}
+use Rattle.ir_program.specs.Constants.{gap_before, end_of, const_cells, typed_cells, elements_cells, fields_cells}
 use Rattle.ir_program.proofs.Laid.{laid_out}
 use Rattle.ir_program.proofs.Sized.{opened_has, fields_sized}
 use Rattle.program_consts.specs.declared.pieces.Pieces.{Pieces}
@@ -31,9 +30,10 @@ typed_fills : (ts : List NamedTyShape) (names : List (List ℕ)) (v : Typed) (t 
     → HasTyped ts (typed_shape names v) t → Fills ts (ty_shape names (out-Typed v).ty) (const_shape names (out-Typed v).value) × (stated_layout ts names v ≡ l)
 unfolding HasConst
 typed_fills ts names v t l has const =
-    let parts = subst (λ (z : TypedShape). HasTyped ts z t) (typed_is names v) const in
-    (record { sized = (l, subst (λ (z : TyShape). HasLayout ts z l) (sym parts.0) has); proper = subst (λ (z : TyShape). HasConst ts (const_shape names (out-Typed v).value) z) (sym parts.0) parts.1 },
-    ap (layout_of ts) parts.0 ∙ laid_out ts t l has)
+    let parts = subst (λ (z : TypedShape). HasTyped ts z t) (typed_is names v) const in (
+      record { sized = (l, subst (λ (z : TyShape). HasLayout ts z l) (sym parts.0) has); proper = subst (λ (z : TyShape). HasConst ts (const_shape names (out-Typed v).value) z) (sym parts.0) parts.1 },
+      ap (layout_of ts) parts.0 ∙ laid_out ts t l has,
+    )
 
 -- elements
 elements_each : (ts : List NamedTyShape) (names : List (List ℕ)) (row : List Typed) (count : ℕ) (element : TyShape) (e : Layout) → HasLayout ts element e

@@ -1,5 +1,5 @@
 -- The bytes of constants, by their kinds.
-use Rattle.std.proofs.Common.{◌≡◌, ℕ, ℤ, Bool, List, [], ◌∷◌, map, replicate, inl, inr, ◌⊎◌, refl, sym, ap, ◌∙◌, Vec, Box}
+use Rattle.std.proofs.Common.{◌≡◌, ℕ, ℤ, Bool, List, map, replicate, inl, inr, ◌⊎◌, refl, sym, ap, ◌∙◌, Vec, Box}
 use Rattle.std.specs.declared.alloc.Global.{Global}
 use Rattle.ir_tree.specs.NameTable.{text_of}
 use Rattle.ir_tree.specs.Shape.{TyShape, ConstShape, number, boolean, null, undef, poison, zero_value, text, elements, fields, global, address, typed_row, ModuleShape}

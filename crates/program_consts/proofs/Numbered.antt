@@ -1,15 +1,15 @@
 -- Constants that are numbers, as indices, and how far steps by them lead.
-use Rattle.std.proofs.Common.{◌≡◌, ℕ, ◌+◌, ◌*◌, ◌%◌, ◌^◌, ℤ, pos, Bool, List, [], ◌∷◌, ◌++◌, map, Option, Some, refl, sym, ap, ap₂, subst, ◌∙◌}
+use Rattle.std.proofs.Common.{◌≡◌, ℕ, ◌+◌, ℤ, pos, List, [], ◌∷◌, ◌++◌, map, Option, Some, refl, sym, ap, ap₂, subst, ◌∙◌}
 use Rattle.std.specs.Prelude.{unwrap_or}
 use Rattle.std.specs.Option.{option_map}
 use Rattle.std.specs.List.{AllByRecursion, AllZip}
-use Rattle.ir_tree.specs.Shape.{TyShape, integer, pointer, void, array, structure, named, ConstShape, number, TypedShape, typed, TypedShapes, no_values, values, typed_row, NamedTyShape, ModuleShape}
+use Rattle.ir_tree.specs.Shape.{TyShape, integer, pointer, void, array, structure, named, ConstShape, number, typed, TypedShapes, no_values, values, typed_row, NamedTyShape, ModuleShape}
 use Rattle.ir_tree.specs.ShapeOf.{typed_shape}
 use Rattle.ir_tree.specs.declared.types.Typed.{Typed}
 use Rattle.ir_rules.specs.Constants.{AreNumbers, const_number, row_numbers}
 use Rattle.ir_model.specs.Values.{Value, Integer}
 use Rattle.ir_model.specs.Integers.{bits_of}
-use Rattle.ir_model.specs.Pointers.{Stride, Scaled, Field, extended, distance}
+use Rattle.ir_model.specs.Pointers.{Stride, Scaled, Field, distance}
 use Rattle.ir_arith.specs.Widths.{IsWidth}
 use Rattle.ir_program.specs.Sizes.{opened}
 use Rattle.ir_program.specs.Strides.{Index, width_of, stride_into, type_inside, strides_inside, strides_of, scaled_only}
@@ -32,12 +32,14 @@ numbers_values m (values (typed t c) vs) are =
 pub numbers_numbered : (vs : TypedShapes) → AreNumbers vs → AllByRecursion IsNumbered (row_indices vs)
 numbers_numbered no_values are = tt
 numbers_numbered (values (typed t c) vs) are =
-    let index = are.0.1 in
-    (record {
-      bits = subst (λ (u : TyShape). IsWidth (width_of u)) (sym index.fits.1) (record { some = index.fits.2; most = index.fits.3 });
-      value = are.0.0;
-      is_number = ap const_number index.is_number;
-    }, numbers_numbered vs are.1)
+    let index = are.0.1 in (
+      record {
+        bits = subst (λ (u : TyShape). IsWidth (width_of u)) (sym index.fits.1) (record { some = index.fits.2; most = index.fits.3 });
+        value = are.0.0;
+        is_number = ap const_number index.is_number;
+      },
+      numbers_numbered vs are.1,
+    )
 
 -- the numbers of indices
 pub numbers_same : (vs : TypedShapes) → map (λ i. i.number) (row_indices vs) ≡ row_numbers vs

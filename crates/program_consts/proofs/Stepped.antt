@@ -1,13 +1,13 @@
 -- Where steps lead, by distances modulo 2^64 and by the sizes of blocks.
 use Rattle.std.specs.Prelude.{◌&&◌, not, if◌then◌else◌}
-use Rattle.std.proofs.Common.{arith, ◌≡◌, ℕ, zero, suc, ◌+◌, ◌%◌, ◌^◌, Bool, true, false, List, [], ◌∷◌, map, length, get_or, replicate, Option, Some, refl, sym, ap, ap₂, subst, ◌∙◌}
+use Rattle.std.proofs.Common.{arith, ◌≡◌, ℕ, zero, suc, ◌%◌, ◌^◌, Bool, List, [], ◌∷◌, map, length, get_or, replicate, refl, sym, ap, ap₂, ◌∙◌}
 use Rattle.std.specs.List.{AllZip}
 use Rattle.std.proofs.Math.Nat.{add-mod-mod}
 use Rattle.std.proofs.lemmas.List.{length-replicate}
 use Rattle.ir_tree.specs.Shape.{GlobalShape, ModuleShape, NamedTyShape}
-use Rattle.ir_model.specs.Values.{Pointer, Value, Integer, Address, Poison, MemoryBlock, Unknown, live_block, no_block}
+use Rattle.ir_model.specs.Values.{Pointer, Value, Integer, Address, Poison, MemoryBlock, Unknown, live_block}
 use Rattle.ir_model.specs.Memory.{size_of}
-use Rattle.ir_model.specs.Pointers.{Stride, is_in_block, stepped, stepped_if, distance, walked}
+use Rattle.ir_model.specs.Pointers.{Stride, is_in_block, stepped, stepped_if, walked}
 use Rattle.ir_program.specs.Sizes.{ty_size}
 use Rattle.ir_program.specs.Strides.{Index, scaled_only}
 use Rattle.ir_program.specs.Constants.{rooms}

@@ -1,11 +1,11 @@
 -- The values of constants, by their kinds.
-use Rattle.std.proofs.Common.{◌≡◌, ◌≤◌, ◌<◌, ℕ, zero, suc, ◌+◌, ℤ, Bool, true, false, inl, inr, ◌⊎◌, ◌&&◌, List, [], ◌∷◌, length, map, Option, Some, None, arith, refl, sym, ap, subst, ◌∙◌, Vec, Box}
+use Rattle.std.proofs.Common.{◌≡◌, ◌≤◌, ◌<◌, ℕ, ◌+◌, ℤ, Bool, true, false, inl, inr, ◌⊎◌, List, [], ◌∷◌, length, map, Option, Some, None, arith, refl, sym, ap, subst, ◌∙◌, Vec, Box}
 use Rattle.std.specs.Prelude.{if◌then◌else◌, IfSome}
 use Rattle.std.specs.declared.alloc.Global.{Global}
 use Rattle.std.specs.List.{position_from}
 use Rattle.std.specs.Str.{bytes_eq}
 use Rattle.ir_tree.specs.NameTable.{text_of, IsKnown}
-use Rattle.ir_tree.specs.Shape.{TyShape, integer, pointer, ConstShape, number, boolean, null, undef, poison, zero_value, text, elements, fields, global, address, TypedShape, typed, TypedShapes, typed_row, GlobalShape, NamedTyShape, ModuleShape}
+use Rattle.ir_tree.specs.Shape.{TyShape, ConstShape, number, boolean, null, undef, poison, zero_value, text, elements, fields, global, address, TypedShape, typed, typed_row, NamedTyShape, ModuleShape}
 use Rattle.ir_tree.specs.ShapeOf.{const_step, typed_step, const_shape, typed_shape, ty_shape}
 use Rattle.ir_tree.specs.Known.{const_known_step, typed_known_step, const_known, typed_known, ty_known}
 use Rattle.ir_tree.specs.declared.names.NameId.{NameId}
@@ -100,8 +100,8 @@ module _ (m : ModuleShape) (names : List (List ℕ)) (t : TyShape) (c : Const) w
   pub address_valued : (inbounds : Bool) (u : Ty) (base : Box Typed Global) (v : Vec Typed Global) (start x : Value) → c ≡ constants.Gep inbounds u base v
       → start ≡ typed_value m (typed_shape names base.value)
       → (let row = typed_row (map (typed_shape names) v.items) in
-        let strides = strides_of m.types (ty_shape names u) (row_indices row) in
-        x ≡ walked inbounds strides (rooms m) start (scaled_only strides (row_values m row)))
+      let strides = strides_of m.types (ty_shape names u) (row_indices row) in
+      x ≡ walked inbounds strides (rooms m) start (scaled_only strides (row_values m row)))
       → x ≡ const_value m t (const_shape names c)
   unfolding const_value
   address_valued inbounds u base v start x is from leads =

@@ -1,28 +1,27 @@
-use Rattle.std.proofs.Common.{rules, ◌≡◌, ◌≤◌, ◌+◌, ◌-◌, ℕ, List, [], ◌∷◌, ◌++◌, true, length, map, drop, replicate, OnOk, arith, refl, sym, ap, ap₂, subst, ◌∙◌, append_assoc}
-use Rattle.std.specs.List.{list_all, AllByRecursion}
+use Rattle.std.proofs.Common.{rules, ◌≡◌, ◌≤◌, ◌+◌, ◌-◌, ℕ, List, ◌++◌, true, length, map, replicate, OnOk, arith, sym, ap, ap₂, subst, ◌∙◌, append_assoc}
+use Rattle.std.specs.List.{list_all}
 use Rattle.std.proofs.lemmas.Grind.{common_steps}
 use Rattle.std.proofs.lemmas.List.Elements.{All-from_recursion}
-use Rattle.ir_tree.specs.Known.{ty_known, const_known, typed_known}
-use Rattle.ir_tree.specs.Shape.{typed, typed_row, fields, elements}
+use Rattle.ir_tree.specs.Known.{typed_known}
+use Rattle.ir_tree.specs.Shape.{typed, typed_row}
 use Rattle.ir_tree.specs.ShapeOf.{ty_shape, const_shape, typed_shape}
 use Rattle.ir_tree.specs.declared.types.Const.{the_lemmas}
 use Rattle.ir_tree.specs.declared.types.Typed.{Typed}
 use Rattle.ir_layout.specs.declared.sizes.Layout.{Layout}
 use Rattle.ir_layout.specs.Layout.{most_size, field_start, field_end, fields_end}
 use Rattle.ir_check_consts.proofs.Shapes.{elements_known, fields_known}
-use Rattle.ir_model.specs.Values.{Value, Cell, Unknown, Byte}
+use Rattle.ir_model.specs.Values.{Cell, Unknown, Byte}
 use Rattle.ir_model.specs.Memory.{cells_of}
-use Rattle.ir_program.specs.Sizes.{layout_of, ty_size}
+use Rattle.ir_program.specs.Sizes.{ty_size}
 use Rattle.ir_program.specs.Constants.{access_of, const_cells, elements_cells, fields_cells, gap_before}
 use Rattle.mem_cells.specs.Shapes.{value_shape}
 use Rattle.program_steps.specs.Steps.{names_of, types_of}
-use Rattle.program_consts.specs.declared.pieces.Pieces.{Pieces}
 use Rattle.program_consts.specs.Constants.{shape_of, ty_of, const_of}
 use Rattle.program_consts.specs.Fills.{Fills, AllFill}
 use Rattle.program_consts.specs.Pieces.{HasCells}
 use Rattle.program_consts.proofs.Valued.{typed_parts, elements_shape, fields_shape}
 use Rattle.program_consts.proofs.Added.{adds_all, adds_more, adds_none}
-use Rattle.program_consts.proofs.Filled.{elements_fill, FieldsFill, fields_fill, stated_layout, elements_at, elements_none, FieldsLeft, fields_all, early, ends_early, one_less, none_left, end_left}
+use Rattle.program_consts.proofs.Filled.{elements_fill, fields_fill, stated_layout, elements_at, elements_none, FieldsLeft, early, one_less, none_left}
 use Rattle.program_consts.proofs.KindCells.{zero_cells, poison_cells, text_cells, array_cells, structure_cells, own_cells}
 use Rattle.program_consts.proofs.contents.+contents.Goals as goal
 

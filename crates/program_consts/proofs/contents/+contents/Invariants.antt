@@ -3,8 +3,8 @@ use Rattle.ir_model.specs.Values.{Cell}
 use Rattle.ir_tree.specs.Shape.{typed_row}
 use Rattle.ir_tree.specs.ShapeOf.{typed_shape}
 use Rattle.ir_tree.specs.declared.types.Typed.{Typed}
-use Rattle.ir_program.specs.Constants.{elements_cells, fields_cells}
-use Rattle.program_steps.specs.Steps.{names_of, types_of}
+use Rattle.ir_program.specs.Constants.{elements_cells}
+use Rattle.program_steps.specs.Steps.{names_of}
 use Rattle.program_consts.specs.Constants.{shape_of}
 use Rattle.program_consts.specs.Pieces.{HasCells}
 use Rattle.program_consts.proofs.Added.{Adds}

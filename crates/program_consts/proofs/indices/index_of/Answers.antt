@@ -1,5 +1,4 @@
-use Rattle.std.proofs.Common.{◌≡◌, ℕ, ℤ, List, Option, sym, ap, ap₂, ◌∙◌}
-use Rattle.ir_tree.specs.Shape.{TypedShape}
+use Rattle.std.proofs.Common.{ℕ, ℤ, Option, sym, ap, ap₂, ◌∙◌}
 use Rattle.ir_check_consts.proofs.Shapes.{typed_is}
 use Rattle.ir_program.specs.Strides.{Index}
 use Rattle.ir_program.specs.Constants.{const_index}

@@ -1,13 +1,8 @@
-use Rattle.std.proofs.Common.{◌≡◌, ◌+◌, ◌<◌, ◌≤◌, true, ℕ, List, [], ◌∷◌, ◌++◌, map, take, length, get_or, sym, ap, ap₂, subst, ◌∙◌}
-use Rattle.std.specs.List.{list_all}
-use Rattle.std.proofs.lemmas.List.{map-append, take_more, take_all}
-use Rattle.ir_tree.specs.Known.{global_known}
-use Rattle.ir_tree.specs.ShapeOf.{module_shape, global_shape, ty_shape}
+use Rattle.std.proofs.Common.{◌≤◌, ℕ, List, [], ◌∷◌, ◌++◌, length, sym, ap₂, subst, ◌∙◌}
+use Rattle.ir_tree.specs.ShapeOf.{global_shape}
 use Rattle.ir_tree.specs.declared.module.GlobalItem.{GlobalItem}
 use Rattle.ir_layout.specs.declared.sizes.Layout.{Layout}
-use Rattle.ir_program.specs.Sizes.{ty_size}
-use Rattle.program_steps.proofs.Alike.{mapped_at, item_there}
-use Rattle.program_consts.proofs.Sized.{GlobalAt, global_at, known_at, sizes_more, sizes_all}
+use Rattle.program_consts.proofs.Sized.{global_at, known_at, sizes_more, sizes_all}
 use Rattle.program_consts.proofs.rooms.block_sizes.Goals as goal
 
 pub layout_of-requires-clause-names : goal.layout_of-requires-clause-names
@@ -24,12 +19,13 @@ layout_of-requires-clause-sized c =
 
 pub loop-global-preserved : goal.loop-global-preserved
 loop-global-preserved c =
-    let m = c.args.steps.now.«module».now in
-    (c.loop-global.invariant.0,
-    c.in_ok-push-2.ensures.items
-    ∙ ap₂ (λ (z : List ℕ) (l : Layout). z ++ l.size ∷ []) c.loop-global.invariant.1 c.layout_of.ensures
-    ∙ sizes_more m c.loop-global.global-index c.global-item.result
-    (global_at m c.deref-global-items.result.now c.loop-global.global-index c.global-item.result c.loop-global.invariant.0 c.loop-global-test.true (sym c.global-item.is)))
+    let m = c.args.steps.now.«module».now in (
+      c.loop-global.invariant.0,
+      c.in_ok-push-2.ensures.items
+          ∙ ap₂ (λ (z : List ℕ) (l : Layout). z ++ l.size ∷ []) c.loop-global.invariant.1 c.layout_of.ensures
+          ∙ sizes_more m c.loop-global.global-index c.global-item.result
+          (global_at m c.deref-global-items.result.now c.loop-global.global-index c.global-item.result c.loop-global.invariant.0 c.loop-global-test.true (sym c.global-item.is)),
+    )
 
 pub returns : goal.returns
 returns c =

@@ -1,4 +1,4 @@
-use Rattle.std.proofs.Common.{◌≡◌, ◌+◌, ◌%◌, ◌^◌, ℕ, None, ap, sym, subst}
+use Rattle.std.proofs.Common.{◌+◌, ◌%◌, ◌^◌, ℕ, None, sym, subst}
 use Rattle.program_tables.specs.declared.operations.Stride.TheVariants.{Scaled}
 use Rattle.program_consts.proofs.Lengths.{FarLeft, all_left, step_there, numbered_here, counted_here, one_less, none_left}
 use Rattle.program_consts.proofs.walks.whole_length.Goals as goal

@@ -1,8 +1,8 @@
-use Rattle.std.proofs.Common.{rules, ◌≡◌, ◌≤◌, ℤ, ℕ, List, true, length, map, to_z, of_z, refl, sym, ap, subst, ◌∙◌}
+use Rattle.std.proofs.Common.{rules, ◌≡◌, List, true, length, map, to_z, of_z, sym, ap, subst, ◌∙◌}
 use Rattle.std.specs.Prelude.{if◌then◌else◌}
 use Rattle.std.specs.Int.{w128}
 use Rattle.std.proofs.lemmas.Result.{IfOk-weaker}
-use Rattle.ir_tree.specs.Known.{ty_known, const_known, typed_known}
+use Rattle.ir_tree.specs.Known.{typed_known}
 use Rattle.ir_tree.specs.Shape.{typed_row}
 use Rattle.ir_tree.specs.ShapeOf.{ty_shape, const_shape, typed_shape}
 use Rattle.ir_tree.specs.declared.types.Const.{the_lemmas}

@@ -1,7 +1,6 @@
 use Rattle.std.proofs.Common.{[]}
 use Rattle.std.proofs.lemmas.Result.{IfOk-weaker}
-use Rattle.std.proofs.Common.{◌≡◌, sym, subst}
-use Rattle.ir_program.specs.Bytes.{HasByte}
+use Rattle.std.proofs.Common.{sym, subst}
 use Rattle.ir_program.specs.Constants.{const_cells}
 use Rattle.program_consts.specs.Constants.{shape_of, ty_of, const_of}
 use Rattle.program_consts.specs.Pieces.{AreBytes}

@@ -1,5 +1,4 @@
-use Rattle.std.proofs.Common.{◌≡◌, ℕ, ℤ, List, Option, map, sym, ap, ap₂, subst, ◌∙◌}
-use Rattle.std.proofs.lemmas.Result.{on_ok_weaker}
+use Rattle.std.proofs.Common.{◌≡◌, List, map, sym, ap, ap₂, subst, ◌∙◌}
 use Rattle.ir_tree.specs.Shape.{typed_row}
 use Rattle.ir_tree.specs.ShapeOf.{typed_shape}
 use Rattle.ir_rules.specs.Constants.{WalksBehind}
