@@ -19,7 +19,8 @@ use Rattle.ir_typed_runs.proofs.Computed.{walked_kind}
 use Rattle.ir_program.specs.Strides.{strides_of, scaled_only}
 use Rattle.ir_program.specs.Sizes.{ty_size}
 use Rattle.ir_program.specs.Constants.{global_address, zero_of, rooms, row_indices, const_value, typed_value, row_values, access_of, value_cells, padded, gap_before, end_of, const_cells, typed_cells, elements_cells, fields_cells}
-use Rattle.proper_programs.specs.ModuleKinds.{kind_of_ty, HasByte}
+use Rattle.ir_program.specs.Bytes.{HasByte}
+use Rattle.proper_programs.specs.ModuleKinds.{kind_of_ty}
 use Rattle.proper_programs.proofs.Positions.{found_at, all_of}
 
 -- how many blocks of memory there are at the start: null's, and one for each global

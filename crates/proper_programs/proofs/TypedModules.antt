@@ -24,7 +24,8 @@ use Rattle.ir_program.specs.ProgramOf.{input_of, phi_of, phis_from, body_from, p
 use Rattle.ir_typed_runs.specs.Kinds.{Kind, OfWidth, HasWidth, IsCell}
 use Rattle.ir_typed_runs.specs.TypedPrograms.{FunctionKinds, kinds_in, first_blocks, GivesKind, IsOperand, IsTypedInstruction, IsTypedPhi, IsTypedBlock, IsTyped}
 use Rattle.ir_typed_runs.proofs.Lists.{all_joined, all_mapped}
-use Rattle.proper_programs.specs.ModuleKinds.{kind_of_ty, returned_kind, site_kind, function_kinds, module_kinds, HasByte, HaveBytes}
+use Rattle.ir_program.specs.Bytes.{HasByte, HaveBytes}
+use Rattle.proper_programs.specs.ModuleKinds.{kind_of_ty, returned_kind, site_kind, function_kinds, module_kinds}
 use Rattle.proper_programs.proofs.Positions.{found_at, exists_at, all_of}
 use Rattle.proper_programs.proofs.ValueKinds.{site_width, gives_kind, gives_nothing}
 use Rattle.proper_programs.proofs.ConstantKinds.{block_count, const_parts, are_cells}

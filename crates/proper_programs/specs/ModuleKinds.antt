@@ -1,12 +1,9 @@
 -- The kinds of the values of a module's program, by the types that the module states.
-use Rattle.std.specs.Prelude.{◌<◌, ⊤, ℕ, List, map, Option, Some, None}
+use Rattle.std.specs.Prelude.{ℕ, List, map, Option, Some, None}
 use Rattle.std.specs.Option.{option_map_or}
-use Rattle.std.specs.List.{AllByRecursion}
 use Rattle.ir_tree.specs.Shape.{TyShape, integer, pointer, void, array, structure, named, FunctionShape, ModuleShape}
 use Rattle.ir_rules.specs.declared.Site.{Site}
 use Rattle.ir_rules.specs.Values.{values, site_ty}
-use Rattle.ir_model.specs.Values.{Cell, Unknown, Byte, Part}
-use Rattle.ir_model.specs.Programs.{Program}
 use Rattle.ir_typed_runs.specs.Kinds.{Kind, OfWidth, OfPointer}
 use Rattle.ir_typed_runs.specs.TypedPrograms.{FunctionKinds}
 
@@ -39,13 +36,3 @@ function_kinds f = record { values = map (λ v. site_kind f v.site) (values f); 
 -- the kinds of all functions of a module
 abbrev pub module_kinds : ModuleShape → List FunctionKinds
 module_kinds m = map function_kinds m.functions
-
--- a byte of memory that holds a number holds one below 256
-abbrev pub HasByte : Cell → Type 0
-HasByte Unknown = ⊤
-HasByte (Byte n) = n < 256
-HasByte (Part q k) = ⊤
-
--- the bytes that globals have at the start are bytes, as those of a text are from which a module was read
-abbrev pub HaveBytes : Program → Type 0
-HaveBytes p = AllByRecursion (AllByRecursion HasByte) p.globals

@@ -8,9 +8,10 @@ ghost use Rattle.ir_tree.specs.Shape.{ModuleShape};
 ghost use Rattle.ir_forms.specs.Modules.{HasForm};
 ghost use Rattle.ir_proper.specs.Proper.{IsProper};
 ghost use Rattle.ir_program.specs.ProgramOf.{program_of};
+ghost use Rattle.ir_program.specs.Bytes.{HaveBytes};
 ghost use Rattle.ir_typed_runs.specs.TypedPrograms.{IsTyped};
 ghost use Rattle.ir_placed_runs.specs.Places.{IsWhole};
-ghost use Rattle.proper_programs.specs.ModuleKinds.{module_kinds, HaveBytes};
+ghost use Rattle.proper_programs.specs.ModuleKinds.{module_kinds};
 
 /// Proves that the program of a proper module is typed, with the kinds that the module states.
 pub fn proper_programs_are_typed()
