@@ -2,7 +2,7 @@
 
 use crate::parse::{hexadecimal, program};
 use anyhow::{Result, bail, ensure};
-use point_list::{Point, outside, points, points_text};
+use point_list::{Point, all_points, outside, points, points_text};
 use std::alloc::{AllocError, Global};
 
 /// Returns points with each register at each word of a text, and some that are none: with registers
@@ -41,6 +41,9 @@ pub fn answer(alloc: Global, case: &[&str]) -> Result<String> {
     }
     let mut answer = format!(in alloc; "inside {inside}")?;
     let text = String::from_utf8(points_text(alloc, &listed)?)?;
+    let every = all_points(alloc, &words, base)?;
+    let every_text = String::from_utf8(points_text(alloc, &every)?)?;
+    ensure!(text == every_text, "the list of all points is another one");
     for line in text.lines() {
         write!(answer, " {line}")?;
     }
