@@ -1,2 +1,2 @@
 mod Scaling
-mod Parts
+pub mod Parts

@@ -1,8 +1,9 @@
 -- Values that are counted have the numbers of their places among all values.
-use Rattle.std.proofs.Common.{◌≡◌, ◌<◌, ◌≤◌, ℕ, zero, suc, ◌+◌, Bool, true, false, inl, inr, ◌⊎◌, List, [], ◌∷◌, ◌++◌, length, Option, Some, None, arith, refl, sym, ap, ap₂, subst, ◌∙◌, append_assoc, append-nil}
-use Rattle.std.specs.Prelude.{◌==◌, ◌&&◌, if◌then◌else◌}
+use Rattle.std.proofs.Common.{◌≡◌, ◌<◌, ◌≤◌, ℕ, suc, ◌+◌, Bool, true, false, inl, inr, ◌⊎◌, List, [], ◌∷◌, ◌++◌, map, length, Option, Some, None, arith, refl, sym, ap, ap₂, ◌∙◌, append_assoc, append-nil}
+use Rattle.std.proofs.lemmas.Bool.Decides.{nat_tests}
+use Rattle.std.specs.Prelude.{if◌then◌else◌}
 use Rattle.std.specs.List.{AllByRecursion, position_from}
-use Rattle.ir_tree.specs.Shape.{BodyShape, InstShape, BlockShape, ParamShape, FunctionShape}
+use Rattle.ir_tree.specs.Shape.{InstShape, BlockShape, ParamShape}
 use Rattle.ir_rules.specs.declared.Site.{Site}
 use Rattle.ir_rules.specs.declared.Site.TheVariants.{Param, Inst}
 use Rattle.ir_rules.specs.Values.{ValueShape, values, params_from, results_of, results_from, all_results_from, gives_value}
@@ -11,14 +12,17 @@ use Rattle.ir_model.specs.Programs.{Instruction, Phi, Block}
 use Rattle.ir_forms.specs.Instructions.{is_phi}
 use Rattle.ir_program.specs.Operands.{is_given_at, result_number}
 use Rattle.ir_program.specs.ProgramOf.{phi_of, phis_from, instruction_of, body_from, blocks_from}
-use Rattle.program_insts.specs.Numbers.{numbered, others_of, number_by, next_by, after, phis_by, others_by, block_by, blocks_by, after_all}
+use Rattle.ir_tree.specs.ShapeOf.{param_shape}
+use Rattle.program_actions.specs.declared.around.Around.{Around as CodeAround}
+use Rattle.program_actions.specs.Around.{around_of, names_around}
+use Rattle.program_insts.specs.Numbers.{numbered, number_by, next_by, after, phis_by, others_by, blocks_by, after_all}
 
 -- what gives a value stands before the instruction of these numbers of a block and in it
-IsBefore : ℕ → ℕ → Site → Type 0
+abbrev IsBefore : ℕ → ℕ → Site → Type 0
 IsBefore b i (Param k) = Unit {0}
 IsBefore b i (Inst c j) = (c < b) ⊎ ((c ≡ b) × (j < i))
 
-AreBefore : ℕ → ℕ → List ValueShape → Type 0
+abbrev AreBefore : ℕ → ℕ → List ValueShape → Type 0
 AreBefore b i vs = AllByRecursion (λ v. IsBefore b i v.site) vs
 
 not_given : (b i : ℕ) (s : Site) → IsBefore b i s → is_given_at b i s ≡ false
@@ -55,7 +59,8 @@ both b i (v ∷ vs) ws h g = (h.0, both b i vs ws h.1 g)
 found : (b i k : ℕ) (before : List ValueShape) (v : ValueShape) (rest : List ValueShape) → AreBefore b i before → v.site ≡ Inst b i
     → position_from (λ w. is_given_at b i w.site) k (before ++ v ∷ rest) ≡ Some (k + length before)
 found b i k [] v rest h is =
-    ap (λ (t : Bool). if t then Some k else position_from (λ w. is_given_at b i w.site) (k + 1) rest) (ap (is_given_at b i) is ∙ is_given b i)
+    let n : k ≡ k + 0 = omega arith in
+    ap (λ (t : Bool). if t then Some k else position_from (λ w. is_given_at b i w.site) (k + 1) rest) (ap (is_given_at b i) is ∙ is_given b i) ∙ ap (λ (z : ℕ). Some z) n
 found b i k (w ∷ ws) v rest h is =
     let n : k + 1 + length ws ≡ k + length (w ∷ ws) = omega arith in
     ap (λ (t : Bool). if t then Some k else position_from (λ u. is_given_at b i u.site) (k + 1) (ws ++ v ∷ rest)) (not_given b i w.site h.0)
@@ -66,7 +71,9 @@ found b i k (w ∷ ws) v rest h is =
 number_at : (b i : ℕ) (all before rest : List ValueShape) (v : ValueShape) (gives : Bool) → v.site ≡ Inst b i → AreBefore b i before
     → all ≡ before ++ ((if gives then v ∷ [] else []) ++ rest)
     → (if gives then position_from (λ w. is_given_at b i w.site) 0 all else None) ≡ (if gives then Some (length before) else None)
-number_at b i all before rest v true is early cut = ap (position_from (λ w. is_given_at b i w.site) 0) cut ∙ found b i 0 before v rest early is
+number_at b i all before rest v true is early cut =
+    let n : 0 + length before ≡ length before = omega arith in
+    ap (position_from (λ w. is_given_at b i w.site) 0) cut ∙ found b i 0 before v rest early is ∙ ap (λ (z : ℕ). Some z) n
 number_at b i all before rest v false is early cut = refl
 
 length_at : (before : List ValueShape) (v : ValueShape) (gives : Bool) → length (before ++ (if gives then v ∷ [] else [])) ≡ (if gives then suc (length before) else length before)
@@ -84,16 +91,16 @@ record Stands (a : Surroundings) (b i : ℕ) (before : List ValueShape) (xs : Li
   cut : values a.function ≡ before ++ (results_from b i xs ++ rest)
   early : AreBefore b i before
 
-here : (b i : ℕ) (x : InstShape) → ValueShape
+abbrev here : (b i : ℕ) (x : InstShape) → ValueShape
 here b i x = record { name = x.result; site = Inst b i }
 
 one_more : (a : Surroundings) (b i : ℕ) (before : List ValueShape) (x : InstShape) (xs : List InstShape) (rest : List ValueShape) → Stands a b i before (x ∷ xs) rest
     → Stands a b (i + 1) (before ++ results_of b i x) xs rest
 one_more a b i before x xs rest s = record {
   cut = s.cut ∙ ap (λ (z : List ValueShape). before ++ z) (append_assoc (results_of b i x) (results_from b (i + 1) xs) rest)
-  ∙ sym (append_assoc before (results_of b i x) (results_from b (i + 1) xs ++ rest));
+      ∙ sym (append_assoc before (results_of b i x) (results_from b (i + 1) xs ++ rest));
   early = both b (i + 1) before (results_of b i x) (all_later b i before s.early)
-  (early_at b (i + 1) (here b i x) (gives_value x) (inr (refl, omega arith)));
+      (early_at b (i + 1) (here b i x) (gives_value x) (inr (refl, omega arith)));
 }
 
 number_is : (a : Surroundings) (b i : ℕ) (before : List ValueShape) (x : InstShape) (xs : List InstShape) (rest : List ValueShape) → Stands a b i before (x ∷ xs) rest
@@ -206,3 +213,11 @@ after_grows n (x ∷ xs) = omega (arith, next_grows n x, after_grows (next_by n 
 pub after_all_grows : (n : ℕ) (bs : List BlockShape) → n ≤ after_all n bs
 after_all_grows n [] = omega arith
 after_all_grows n (b ∷ bs) = omega (arith, after_grows n b.insts, after_all_grows (after n b.insts) bs)
+
+-- the parameters of a function as code has it
+pub params_counted : (a : CodeAround) → length (around_of a).function.params ≡ length a.function.now.params.items
+params_counted a = mapped_long (param_shape (names_around a)) a.function.now.params.items
+  where
+    mapped_long : {X Y : Type 0} (f : X → Y) (xs : List X) → length (map f xs) ≡ length xs
+    mapped_long f [] = refl
+    mapped_long f (x ∷ xs) = ap suc (mapped_long f xs)

@@ -1,1 +1,2 @@
-pub mod Counted
+mod Counted
+mod SoFar

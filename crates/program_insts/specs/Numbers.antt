@@ -29,6 +29,10 @@ numbered a result body = record { result = result; action = action_of a body; op
 abbrev pub others_of : Surroundings → Option ℕ → BodyShape → List Instruction
 others_of a result body = if is_phi body then [] else numbered a result body ∷ []
 
+-- a block with one instruction more, which gives the value of a number or none
+abbrev pub with_inst : Surroundings → Option ℕ → BodyShape → Block → Block
+with_inst a result body b = record { phis = b.phis ++ phi_of a result body; body = b.body ++ others_of a result body }
+
 -- the number of what an instruction gives, where the next value has this number, and the number of the value after it
 abbrev pub number_by : ℕ → InstShape → Option ℕ
 number_by n x = if gives_value x then Some n else None

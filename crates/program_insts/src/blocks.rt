@@ -6,9 +6,9 @@ ghost use Rattle.ir_tree.specs.ShapeOf.{block_shape as source_shape};
 ghost use Rattle.ir_program.specs.ProgramOf.{blocks_from};
 ghost use Rattle.program_tables.specs.Shapes.{block_shape};
 ghost use Rattle.program_actions.specs.Around.{IsAround, around_of, names_around};
-ghost use Rattle.program_insts.specs.Numbers.{AreBlocksTyped, block_by, after, blocks_by};
+ghost use Rattle.program_insts.specs.Numbers.{IsBlockTyped, block_by, after};
 
-use crate::instructions::{gives_value, push_inst};
+use crate::instructions::push_next;
 use ir_tree::module::Block as SourceBlock;
 use program_actions::Around;
 use program_tables::Block;
@@ -37,12 +37,7 @@ fn block_of(
         body: Vec::new(alloc),
     };
     for inst in &source.insts {
-        if gives_value(inst) {
-            push_inst(alloc, around, Some(*next), inst, &mut block)?;
-            *next += 1;
-        } else {
-            push_inst(alloc, around, None, inst, &mut block)?;
-        }
+        push_next(alloc, around, inst, &mut block, next)?;
     }
     Ok(block)
 }
@@ -53,6 +48,8 @@ pub fn blocks_of(alloc: Global, around: &Around) -> Result<Vec<Block>, AllocErro
     ensures { IfOk result (λ blocks. map block_shape blocks.items
         ≡ blocks_from (around_of around.now) 0 (around_of around.now).function.blocks) }
 {
+    // No number is as large as the count of values, so none passes a `usize`.
+    let _count = around.values.len();
     let mut next = around.function.params.len();
     let mut blocks = Vec::new(alloc);
     for source in &around.function.blocks {
