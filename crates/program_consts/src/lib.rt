@@ -11,4 +11,5 @@ mod rooms;
 mod values;
 mod walks;
 
+pub use indices::width_of;
 pub use values::Constants;
