@@ -7,7 +7,7 @@ export SWIFTR_QUIET ?= 1
 .PHONY: help build demo test lint documents release install uninstall man clean distclean
 
 help:
-	@echo 'make demo                compiles an example, runs it, and flips bits in it (seconds; runs dist/ where nothing is built)'
+	@echo 'make demo                compiles an example, runs it, flips bits in it, and evaluates a text (seconds; runs dist/ where nothing is built)'
 	@echo 'make build               proves this tree and builds the command (from nothing half an hour or so on four processors)'
 	@echo 'make test                the gate: proves everything, tries every must-fail edit, runs every test and program'
 	@echo 'make lint                looks for long clauses, missing docs and the like (seconds; no part of the gate)'
@@ -37,6 +37,9 @@ demo:
 	@echo '# bit 0 of x17 before the call, at 00010008: a listed point, and there is no such call'
 	$(call show,./swiftr flip build/seven.elf - 100 2 17 0)
 	$(call show,examples/flip-all.sh examples/seven.ll)
+	@echo '# what a text means, without a machine: the checksum of nine digits'
+	@printf 123456789 > build/digits
+	$(call show,./swiftr eval examples/checksum.ll build/digits 1000)
 	@echo '# the module of a text in the manner of clang, in one form'
 	$(call show,./swiftr print examples/echo.ll)
 

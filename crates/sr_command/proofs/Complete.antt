@@ -1,6 +1,6 @@
 -- What can be done is done, where no fault comes and memory suffices: each other status has a cause against it.
 use Rattle.std.proofs.Common.{◌≡◌, ◌⊎◌, inl, inr, refl, Some, IsSome}
-use Rattle.sr_command.specs.Words.{Form, compile, execute, disasm, print}
+use Rattle.sr_command.specs.Words.{Form, compile, execute, evaluate, disasm, print}
 use Rattle.sr_command.specs.Promise.{Promise}
 use Rattle.sr_command.specs.Yield.{Yield}
 use Rattle.sr_command.specs.Forms.{promise_of}
@@ -10,6 +10,7 @@ use Rattle.sr_command.specs.declared.status.Status.TheVariants.{Done, Usage, Ref
 use Rattle.sr_command.proofs.Sound.{IsSound, decides_one}
 use Rattle.sr_command.proofs.CompileLaws.{compile_sound}
 use Rattle.sr_command.proofs.DisasmLaws.{disasm_sound}
+use Rattle.sr_command.proofs.EvaluateLaws.{evaluate_sound}
 use Rattle.sr_command.proofs.ExecuteLaws.{execute_sound}
 use Rattle.sr_command.proofs.PrintLaws.{print_sound}
 
@@ -17,6 +18,7 @@ use Rattle.sr_command.proofs.PrintLaws.{print_sound}
 pub sound_of : (form : Form) → IsSound (promise_of form)
 sound_of (compile input output) = compile_sound input output
 sound_of (execute program input steps flip) = execute_sound program input steps flip
+sound_of (evaluate text input steps) = evaluate_sound text input steps
 sound_of (disasm program) = disasm_sound program
 sound_of (print input) = print_sound input
 

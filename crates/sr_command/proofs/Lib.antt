@@ -7,6 +7,7 @@ mod LoadLaws
 mod Hexadecimals
 mod Numbers
 mod PrintLaws
+mod EvaluateLaws
 mod Complete
 mod Delivered
 mod ExitSurvives

@@ -1,4 +1,4 @@
--- An executable and an input that are told to be there are those that are read.
+-- A file and an input that are told to be there are those that are read.
 use Rattle.std.proofs.Common.{◌≡◌, ◌<◌, ℕ, List, inl, inr, sym, ◌∙◌, ap, arith, Option, Some, None, Result, Ok, Err, IsSome, IfOk, IfErr, MatchResult, length}
 use Rattle.sr_base.specs.Files.{Files, Holds}
 use Rattle.elf_file.specs.Image.{ProgramImage}
@@ -13,10 +13,10 @@ use Rattle.sr_command.specs.declared.status.Status.TheVariants.{NoMemory}
 use Rattle.sr_command.specs.declared.refusal.Refusal.{Refusal}
 use Rattle.sr_command.specs.declared.refusal.Refusal.TheVariants.{TooLong, NotElf, WrongKind, BadSegment, Overlap, TooLarge}
 use Rattle.sr_command.proofs.Sound.{one_file, not_absent}
-use Rattle.sr_command.specs.Loads.{HasFile, HasInput, HasLongerInput, LacksInput, IsLoaded, IsNoExecutable, RefusesLoad, LacksLoad, most_program}
+use Rattle.sr_command.specs.Loads.{HasFile, HasInput, HasLongerInput, LacksInput, HasPair, HasTooLong, LacksPair, IsLoaded, IsNoExecutable, RefusesLoad, LacksLoad, most_program}
 
 -- two inputs that are told are the same
-one_input : (files : Option Files) (input : Option (List ℕ)) (a b : List ℕ) → IsSome files → HasInput files input a → HasInput files input b → a ≡ b
+pub one_input : (files : Option Files) (input : Option (List ℕ)) (a b : List ℕ) → IsSome files → HasInput files input a → HasInput files input b → a ≡ b
 one_input files None a b told p q = p ∙ sym q
 one_input files (Some name) a b told p q = one_file files name a b told p.0 q.0
 
@@ -30,6 +30,27 @@ input_not_longer files (Some name) a told has longer = not_longer files name a l
 input_there : (files : Option Files) (input : Option (List ℕ)) (a : List ℕ) → IsSome files → HasInput files input a → LacksInput files input → ⊥
 input_there files None a told has lacks = lacks
 input_there files (Some name) a told has lacks = not_absent files name a told has.0 lacks
+
+longer_there : (files : Option Files) (input : Option (List ℕ)) → IsSome files → HasLongerInput files input → LacksInput files input → ⊥
+longer_there files None told longer lacks = longer
+longer_there files (Some name) told longer lacks = not_absent files name longer.0 told longer.1 lacks
+
+-- a file and an input that are there and within their limits aren't too long
+pub pair_not_longer : (files : Option Files) (name : List ℕ) (most : ℕ) (input : Option (List ℕ)) (bytes content : List ℕ) (limit : ℕ) → IsSome files → HasPair files name most input bytes content → HasTooLong files name most input limit → ⊥
+pair_not_longer files name most input bytes content limit told has (inl (is_limit, (other, holds, longer))) = not_longer files name bytes other most told has.0 holds longer
+pair_not_longer files name most input bytes content limit told has (inr (is_limit, within, longer)) = input_not_longer files input content told has.1 longer
+
+-- and are there
+pub pair_there : (files : Option Files) (name : List ℕ) (most : ℕ) (input : Option (List ℕ)) (bytes content : List ℕ) → IsSome files → HasPair files name most input bytes content → LacksPair files name most input → ⊥
+pair_there files name most input bytes content told has (inl lacks) = not_absent files name bytes told has.0.0 lacks
+pair_there files name most input bytes content told has (inr (within, lacks)) = input_there files input content told has.1 lacks
+
+-- so is what is too long
+pub too_long_there : (files : Option Files) (name : List ℕ) (most : ℕ) (input : Option (List ℕ)) (limit : ℕ) → IsSome files → HasTooLong files name most input limit → LacksPair files name most input → ⊥
+too_long_there files name most input limit told (inl (is_limit, (content, holds, longer))) (inl lacks) = not_absent files name content told holds lacks
+too_long_there files name most input limit told (inl (is_limit, (content, holds, longer))) (inr ((bytes, has), lacks)) = not_longer files name bytes content most told has holds longer
+too_long_there files name most input limit told (inr (is_limit, (bytes, has), longer)) (inl lacks) = not_absent files name bytes told has.0 lacks
+too_long_there files name most input limit told (inr (is_limit, within, longer)) (inr (also, lacks)) = longer_there files input told longer lacks
 
 ok_is : (x y : ProgramImage) → ◌≡◌ {A = Result ProgramImage ElfError} (Ok x) (Ok y) → x ≡ y
 ok_is x y e = cc
@@ -51,8 +72,7 @@ load_not_broken files program input image content error told l (bytes, other, re
 
 -- it isn't refused, and is there
 pub load_not_refused : (files : Option Files) (program : List ℕ) (why : Refusal) (input : Option (List ℕ)) (image : ProgramImage) (content : List ℕ) → IsSome files → IsLoaded files program input image content → RefusesLoad files program input why → ⊥
-load_not_refused files program (TooLong most) input image content told l (inl (is_most, (other, holds, longer))) = not_longer files program l.bytes other most_program told l.read.0 holds longer
-load_not_refused files program (TooLong most) input image content told l (inr (is_most, has, longer)) = input_not_longer files input content told l.read.1 longer
+load_not_refused files program (TooLong most) input image content told l h = pair_not_longer files program most_program input l.bytes content most told l.read h
 load_not_refused files program NotElf input image content told l h = load_not_broken files program input image content elf.NotElf told l h
 load_not_refused files program WrongKind input image content told l h = load_not_broken files program input image content elf.WrongKind told l h
 load_not_refused files program BadSegment input image content told l h = load_not_broken files program input image content elf.BadSegment told l h
@@ -61,23 +81,14 @@ load_not_refused files program TooLarge input image content told l h = load_not_
 load_not_refused files program other input image content told l h = absurd h
 
 pub load_there : (files : Option Files) (program : List ℕ) (input : Option (List ℕ)) (image : ProgramImage) (content : List ℕ) → IsSome files → IsLoaded files program input image content → LacksLoad files program input → ⊥
-load_there files program input image content told l (inl lacks) = not_absent files program l.bytes told l.read.0.0 lacks
-load_there files program input image content told l (inr (has, lacks)) = input_there files input content told l.read.1 lacks
+load_there files program input image content told l lacks = pair_there files program most_program input l.bytes content told l.read lacks
 
 -- what is refused is there
-longer_there : (files : Option Files) (input : Option (List ℕ)) → IsSome files → HasLongerInput files input → LacksInput files input → ⊥
-longer_there files None told longer lacks = longer
-longer_there files (Some name) told longer lacks = not_absent files name longer.0 told longer.1 lacks
-
 broken_there : (files : Option Files) (program : List ℕ) (input : Option (List ℕ)) (error : ElfError) → IsSome files → IsNoExecutable files program input error → LacksLoad files program input → ⊥
-broken_there files program input error told (bytes, content, read, fails) (inl lacks) = not_absent files program bytes told read.0.0 lacks
-broken_there files program input error told (bytes, content, read, fails) (inr (has, lacks)) = input_there files input content told read.1 lacks
+broken_there files program input error told (bytes, content, read, fails) lacks = pair_there files program most_program input bytes content told read lacks
 
 pub refused_there : (files : Option Files) (program : List ℕ) (why : Refusal) (input : Option (List ℕ)) → IsSome files → RefusesLoad files program input why → LacksLoad files program input → ⊥
-refused_there files program (TooLong most) input told (inl (is_most, (content, holds, longer))) (inl lacks) = not_absent files program content told holds lacks
-refused_there files program (TooLong most) input told (inl (is_most, (content, holds, longer))) (inr ((bytes, has), lacks)) = not_longer files program bytes content most_program told has holds longer
-refused_there files program (TooLong most) input told (inr (is_most, (bytes, has), longer)) (inl lacks) = not_absent files program bytes told has.0 lacks
-refused_there files program (TooLong most) input told (inr (is_most, has, longer)) (inr (also, lacks)) = longer_there files input told longer lacks
+refused_there files program (TooLong most) input told h lacks = too_long_there files program most_program input most told h lacks
 refused_there files program NotElf input told h lacks = broken_there files program input elf.NotElf told h lacks
 refused_there files program WrongKind input told h lacks = broken_there files program input elf.WrongKind told h lacks
 refused_there files program BadSegment input told h lacks = broken_there files program input elf.BadSegment told h lacks

@@ -43,14 +43,18 @@ print_job (Ok (Refuse why)) s s' input text has refuses e = (text, has.0, refuse
 print_job (Ok other) s s' input text has h e = absurd h
 print_job (Err status) s s' input text has h e = rw e tt
 
--- a text that has a module isn't refused
+-- a text that has a module has one
+pub has_module : (text : List ℕ) (why : Refusal) (m : ModuleShape) → IsModuleOf text m → HasNoModule text why → ⊥
+has_module text (Bad at) m is h = not_refused text m (source.Bad at) is h
+has_module text (Outside at word) m is (len, refused, taken) = not_refused text m (source.Outside at len) is refused
+has_module text (Deep at) m is h = not_refused text m (source.Deep at) is h
+has_module text (Syntax at) m is h = not_refused text m (source.Syntax at) is h
+has_module text other m is h = absurd h
+
+-- and isn't refused
 printed_not_refused : (text : List ℕ) (why : Refusal) (m : ModuleShape) → HasModule text m → RefusesPrint text why → ⊥
 printed_not_refused text (TooLong most) m printable h = omega (arith, printable.0, h.1)
-printed_not_refused text (Bad at) m printable h = not_refused text m (source.Bad at) printable.1 h.1
-printed_not_refused text (Outside at word) m printable (short, (len, refused, is)) = not_refused text m (source.Outside at len) printable.1 refused
-printed_not_refused text (Deep at) m printable h = not_refused text m (source.Deep at) printable.1 h.1
-printed_not_refused text (Syntax at) m printable h = not_refused text m (source.Syntax at) printable.1 h.1
-printed_not_refused text other m printable h = absurd h.1
+printed_not_refused text why m printable h = has_module text why m printable.1 h.1
 
 -- files that are told decide one status of the form
 pub print_sound : (input : List ℕ) → IsSound (printing input)

@@ -1,4 +1,4 @@
--- The files that a form reads: a text, or an executable and an input, in this order.
+-- The files that a form reads: a text, or a text or an executable and then an input.
 use Rattle.std.specs.Prelude.{◌≡◌, ◌⊎◌, ◌<◌, ◌≤◌, ℕ, List, [], length, Option, Some, None, Ok, Err}
 use Rattle.sr_base.specs.Files.{Files, Holds}
 use Rattle.elf_file.specs.Image.{ProgramImage}
@@ -43,13 +43,26 @@ abbrev pub LacksInput : Option Files → Option (List ℕ) → Type 0
 LacksInput files None = ⊥
 LacksInput files (Some name) = Holds files name None
 
--- the program's file is there, and within its limit
-abbrev pub HasProgram : Option Files → List ℕ → Type 0
-HasProgram files program = (bytes : List ℕ) × HasFile files program most_program bytes
+-- a file is there, and within its limit
+abbrev pub IsWithin : Option Files → List ℕ → ℕ → Type 0
+IsWithin files name most = (content : List ℕ) × HasFile files name most content
+
+-- a file of at most so many bytes and an input are there and within their limits
+abbrev pub HasPair : Option Files → List ℕ → ℕ → Option (List ℕ) → List ℕ → List ℕ → Type 0
+HasPair files name most input bytes content = HasFile files name most bytes × HasInput files input content
+
+-- one of them is too long, whose limit this is: the file; or the file isn't, and the input is
+abbrev pub HasTooLong : Option Files → List ℕ → ℕ → Option (List ℕ) → ℕ → Type 0
+HasTooLong files name most input limit =
+    ((limit ≡ most) × HasLonger files name most) ⊎ ((limit ≡ most_input) × IsWithin files name most × HasLongerInput files input)
+
+-- one of them isn't there: the file; or the file is there and within its limit, and the input isn't there
+abbrev pub LacksPair : Option Files → List ℕ → ℕ → Option (List ℕ) → Type 0
+LacksPair files name most input = Holds files name None ⊎ (IsWithin files name most × LacksInput files input)
 
 -- the files are there and within their limits: the program's with these bytes, and the input
 abbrev pub HasBoth : Option Files → List ℕ → Option (List ℕ) → List ℕ → List ℕ → Type 0
-HasBoth files program input bytes content = HasFile files program most_program bytes × HasInput files input content
+HasBoth files program input bytes content = HasPair files program most_program input bytes content
 
 -- the files are there and within their limits, and the program's is the executable of the image
 pub record IsLoaded (files : Option Files) (program : List ℕ) (input : Option (List ℕ)) (image : ProgramImage) (content : List ℕ) : Type 0 where
@@ -63,9 +76,7 @@ IsNoExecutable files program input error = (bytes content : List ℕ) × HasBoth
 
 -- why they are refused: the program's file is too long; or it is not, and the input's is; or neither is, and the program's is no executable
 abbrev pub RefusesLoad : Option Files → List ℕ → Option (List ℕ) → Refusal → Type 0
-RefusesLoad files program input (TooLong most) =
-    ((most ≡ most_program) × HasLonger files program most_program)
-    ⊎ ((most ≡ most_input) × HasProgram files program × HasLongerInput files input)
+RefusesLoad files program input (TooLong most) = HasTooLong files program most_program input most
 RefusesLoad files program input NotElf = IsNoExecutable files program input elf.NotElf
 RefusesLoad files program input WrongKind = IsNoExecutable files program input elf.WrongKind
 RefusesLoad files program input BadSegment = IsNoExecutable files program input elf.BadSegment
@@ -75,4 +86,4 @@ RefusesLoad files program input other = ⊥
 
 -- a file isn't there: the program's; or the program's is there and within its limit, and the input's isn't there
 abbrev pub LacksLoad : Option Files → List ℕ → Option (List ℕ) → Type 0
-LacksLoad files program input = Holds files program None ⊎ (HasProgram files program × LacksInput files input)
+LacksLoad files program input = LacksPair files program most_program input

@@ -8,6 +8,7 @@ use Rattle.rv_model.specs.declared.Flip.{Flip}
 pub data Form : Type 0 where
   compile : (input output : List ℕ) → Form
   execute : (program : List ℕ) (input : Option (List ℕ)) (steps : ℕ) (flip : Option Flip) → Form
+  evaluate : (text : List ℕ) (input : Option (List ℕ)) (steps : ℕ) → Form
   disasm : (program : List ℕ) → Form
   print : (input : List ℕ) → Form
 
@@ -49,6 +50,12 @@ abbrev pub flipped_execution : List ℕ → List ℕ → Option ℕ → Option F
 flipped_execution program input steps None = None
 flipped_execution program input steps (Some flip) = execution program input steps (Some flip)
 
+-- the form of IN, INPUT and a number of steps
+abbrev pub evaluation : List ℕ → List ℕ → Option ℕ → Option Form
+evaluation text input None = None
+evaluation text input (Some steps) =
+    if is_name text && not (bytes_eq input []) then Some (evaluate text (input_of input) steps) else None
+
 -- the form of a command's name and one more word: `disasm EXE` or `print IN`
 abbrev pub two_words : List ℕ → List ℕ → Option Form
 two_words command file =
@@ -60,10 +67,11 @@ abbrev pub three_words : List ℕ → List ℕ → List ℕ → Option Form
 three_words command first second =
     if bytes_eq command (codes "compile") && (is_name first && is_name second) then Some (compile first second) else None
 
--- that of `run EXE INPUT STEPS`
+-- that of `run EXE INPUT STEPS` or `eval IN INPUT STEPS`
 abbrev pub four_words : List ℕ → List ℕ → List ℕ → List ℕ → Option Form
-four_words command program input steps =
-    if bytes_eq command (codes "run") then execution program input (number_of steps) None else None
+four_words command file input steps =
+    if bytes_eq command (codes "run") then execution file input (number_of steps) None
+    else (if bytes_eq command (codes "eval") then evaluation file input (number_of steps) else None)
 
 -- that of `flip EXE INPUT STEPS N R B`
 abbrev pub seven_words : List ℕ → List ℕ → List ℕ → List ℕ → Option Flip → Option Form
@@ -74,6 +82,6 @@ seven_words command program input steps flip =
 abbrev pub form_of : List (List ℕ) → Option Form
 form_of (command ∷ file ∷ []) = two_words command file
 form_of (command ∷ first ∷ second ∷ []) = three_words command first second
-form_of (command ∷ program ∷ input ∷ steps ∷ []) = four_words command program input steps
+form_of (command ∷ file ∷ input ∷ steps ∷ []) = four_words command file input steps
 form_of (command ∷ program ∷ input ∷ steps ∷ at ∷ reg ∷ bit ∷ []) = seven_words command program input steps (flip_of at reg bit)
 form_of _ = None

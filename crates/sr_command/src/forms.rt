@@ -2,5 +2,6 @@
 
 pub mod compile;
 pub mod disasm;
+pub mod evaluate;
 pub mod execute;
 pub mod print;

@@ -1,6 +1,6 @@
 //! The command, as one call over words, a store and two sinks: compiles a text into an executable that
 //! survives a flipped register bit, runs executables with one flip or with none, lists their words, and
-//! prints the module of a text.
+//! prints or evaluates the module of a text.
 #![tactic(auto)]
 
 mod first_form;

@@ -19,7 +19,7 @@ pub const MOST_TEXT: usize = 4_194_304;
 const MOST_PROGRAM: usize = 268_435_456;
 
 /// The most bytes that an input may have.
-const MOST_INPUT: usize = 16_777_216;
+pub const MOST_INPUT: usize = 16_777_216;
 
 /// What the files of an executable and an input are.
 #[derive(Drop)]
@@ -51,7 +51,7 @@ pub fn read_file<S: Store>(
 }
 
 /// Reads the input, which is empty where it has no name; `None` where its file is too long.
-fn read_input<S: Store>(
+pub fn read_input<S: Store>(
     alloc: Global,
     input: Option<&str>,
     store: &mut S,

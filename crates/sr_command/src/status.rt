@@ -14,9 +14,9 @@ pub enum Status {
     Usage = 1,
     /// A file that is there was refused.
     Refused = 2,
-    /// The program of a file trapped.
+    /// The program of a file trapped, or the module of a text has no meaning.
     Stopped = 3,
-    /// The program of a file hadn't ended when its steps were over.
+    /// The program of a file, or the module of a text, hadn't ended when its steps were over.
     StepsOver = 4,
     /// The store failed to read.
     ReadFault = 5,

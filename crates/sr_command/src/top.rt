@@ -12,6 +12,7 @@ ghost use Rattle.sr_command.specs.Answers.{IsAnswer, world};
 
 use crate::forms::compile::compile;
 use crate::forms::disasm::disasm;
+use crate::forms::evaluate::evaluate;
 use crate::forms::execute::execute;
 use crate::forms::print::print;
 use crate::job::{Job, finish, tell};
@@ -41,6 +42,7 @@ fn make_job<'a, S: Store>(
             steps,
             flip,
         } => execute(alloc, program, input, steps, flip, store),
+        Command::Evaluate { text, input, steps } => evaluate(alloc, text, input, steps, store),
         Command::Disasm { program } => disasm(alloc, program, store),
         Command::Print { input } => print(alloc, input, store),
     }
@@ -94,8 +96,8 @@ fn run<S: Store, O: Sink, N: Sink>(
 /// | 0 | all was done | none, or how the program ended |
 /// | 1 | the words have none of the forms | `usage` |
 /// | 2 | a file is refused | `refused` and a kind |
-/// | 3 | the program in a file traps | `trap`, the address and the cause |
-/// | 4 | the program hasn't ended within its steps | `steps over` |
+/// | 3 | the program in a file traps, or the module of a text has no meaning | `trap`, the address and the cause, or `undefined` and why |
+/// | 4 | the program or the module hasn't ended within its steps | `steps over` |
 /// | 5 | only where the store counted a read fault | `read fault` |
 /// | 6 | only where the store, `out` or `note` counted a fault | `write fault` |
 /// | 7 | where memory runs out | `no memory` |

@@ -5,7 +5,7 @@ ghost use Rattle.std.specs.Prelude.{◌≡◌, ◌≤◌, map, option_map, strin
 ghost use Rattle.std.specs.Str.{bytes_eq};
 ghost use Rattle.std.specs.Fmt.{decimal};
 ghost use Rattle.rv_model.specs.Run.{FlipFits};
-ghost use Rattle.sr_command.specs.Words.{form_of, two_words, three_words, four_words, seven_words, is_name, number_of, within, flip_of, input_of, execution};
+ghost use Rattle.sr_command.specs.Words.{form_of, two_words, three_words, four_words, seven_words, is_name, number_of, within, flip_of, input_of, execution, evaluation};
 ghost use Rattle.sr_command.specs.Commands.{meant, word_bytes, HasGoodFlip};
 
 use itoa::Buffer;
@@ -26,6 +26,13 @@ pub enum Command<'a> {
         input: Option<&'a str>,
         steps: u64,
         flip: Option<Flip>,
+    },
+    /// `eval IN INPUT STEPS`: evaluates the module of the text in the file IN for at most so many steps, on the
+    /// input in a file or on the empty one.
+    Evaluate {
+        text: &'a str,
+        input: Option<&'a str>,
+        steps: u64,
     },
     /// `disasm EXE`: lists the words of the executable in the file EXE.
     Disasm {
@@ -123,6 +130,21 @@ fn parse_execution<'a>(
     }
 }
 
+/// Returns the command of IN, INPUT and STEPS.
+fn parse_evaluation<'a>(text: &'a str, input: &'a str, steps: &str) -> Option<Command<'a>>
+    ensures meant { option_map meant result ≡ evaluation text.now input.now (number_of steps.now) }
+    ensures fits { IfSome result HasGoodFlip }
+{
+    match number_of(steps) {
+        Some(steps) if is_name(text) && input != "" => Some(Command::Evaluate {
+            text,
+            input: input_of(input),
+            steps: u64::from(steps),
+        }),
+        _ => None,
+    }
+}
+
 /// Parses the command of a name and one more word.
 fn parse_two<'a>(command: &str, file: &'a str) -> Option<Command<'a>>
     ensures meant { option_map meant result ≡ two_words command.now file.now }
@@ -152,19 +174,16 @@ fn parse_three<'a>(command: &'a str, first: &'a str, second: &'a str) -> Option<
     }
 }
 
-/// Returns the command of a name, EXE, INPUT and STEPS.
-fn parse_four<'a>(
-    command: &str,
-    program: &'a str,
-    input: &'a str,
-    steps: &str,
-) -> Option<Command<'a>>
+/// Returns the command of a name, a file, INPUT and STEPS.
+fn parse_four<'a>(command: &str, file: &'a str, input: &'a str, steps: &str) -> Option<Command<'a>>
     ensures meant { option_map meant result
-        ≡ four_words command.now program.now input.now steps.now }
+        ≡ four_words command.now file.now input.now steps.now }
     ensures fits { IfSome result HasGoodFlip }
 {
     if command == "run" {
-        parse_execution(program, input, steps, None)
+        parse_execution(file, input, steps, None)
+    } else if command == "eval" {
+        parse_evaluation(file, input, steps)
     } else {
         None
     }
@@ -201,9 +220,9 @@ pub fn parse_words(words: &[String]) -> Option<Command<'_>>
         [command, first, second] => {
             parse_three(command.as_str(), first.as_str(), second.as_str())
         }
-        [command, program, input, steps] => parse_four(
+        [command, file, input, steps] => parse_four(
             command.as_str(),
-            program.as_str(),
+            file.as_str(),
             input.as_str(),
             steps.as_str(),
         ),

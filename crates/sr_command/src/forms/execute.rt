@@ -18,8 +18,8 @@ use rv_model::{Cause, Flip};
 use sr_base::Store;
 use std::alloc::{AllocError, Global};
 
-/// Returns the line of a program that ended with a status after so many instructions.
-fn ended_line(alloc: Global, status: u8, steps: u64) -> Result<Vec<u8>, AllocError>
+/// Returns the line of a program that ended with a status after so many steps.
+pub fn ended_line(alloc: Global, status: u8, steps: u64) -> Result<Vec<u8>, AllocError>
     ensures { IfOk result (λ line. line.items ≡ ended_line status steps) }
 {
     let line = format!(in alloc; "ended status={status} steps={steps}\n")?;
