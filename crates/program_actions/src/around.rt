@@ -40,7 +40,8 @@ impl Around<'_> {
     pub fn block_number(&self, id: NameId) -> usize
         requires around { IsAround self.now }
         requires known { IsKnown (names_around self.now) id.0 }
-        ensures { result ≡ block_number (around_of self.now) (name_shape (names_around self.now) id) }
+        ensures { result ≡ block_number (around_of self.now)
+            (name_shape (names_around self.now) id) }
     {
         self.values.block_of(id).unwrap_or(0)
     }

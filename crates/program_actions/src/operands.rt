@@ -92,7 +92,8 @@ impl Around<'_> {
         requires left_proper { HasTy (around_of self.now)
             (val_shape (names_around self.now) left.now) (ty_shape (names_around self.now) ty.now) }
         requires right_proper { HasTy (around_of self.now)
-            (val_shape (names_around self.now) right.now) (ty_shape (names_around self.now) ty.now) }
+            (val_shape (names_around self.now) right.now)
+            (ty_shape (names_around self.now) ty.now) }
         ensures { IfOk result (λ operands. map operand_shape operands.items
             ≡ operand_of (around_of self.now) (ty_shape (names_around self.now) ty.now)
             (val_shape (names_around self.now) left.now) ∷ operand_of (around_of self.now)
@@ -116,12 +117,15 @@ impl Around<'_> {
         requires names { ty_val_known (length (names_around self.now)) condition.now ≡ true }
         requires met_names { ty_val_known (length (names_around self.now)) met.now ≡ true }
         requires unmet_names { ty_val_known (length (names_around self.now)) unmet.now ≡ true }
-        requires proper { Fits (around_of self.now) (ty_val_shape (names_around self.now) condition.now) }
-        requires met_proper { Fits (around_of self.now) (ty_val_shape (names_around self.now) met.now) }
+        requires proper { Fits (around_of self.now)
+            (ty_val_shape (names_around self.now) condition.now) }
+        requires met_proper { Fits (around_of self.now)
+            (ty_val_shape (names_around self.now) met.now) }
         requires unmet_proper { Fits (around_of self.now)
             (ty_val_shape (names_around self.now) unmet.now) }
         ensures { IfOk result (λ operands. map operand_shape operands.items
-            ≡ typed_operand (around_of self.now) (ty_val_shape (names_around self.now) condition.now)
+            ≡ typed_operand (around_of self.now)
+            (ty_val_shape (names_around self.now) condition.now)
             ∷ typed_operand (around_of self.now) (ty_val_shape (names_around self.now) met.now)
             ∷ typed_operand (around_of self.now) (ty_val_shape (names_around self.now) unmet.now)
             ∷ []) }
@@ -137,11 +141,14 @@ impl Around<'_> {
         requires around { IsAround self.now }
         requires names { ty_val_known (length (names_around self.now)) value.now ≡ true }
         requires at_names { ty_val_known (length (names_around self.now)) at.now ≡ true }
-        requires proper { Fits (around_of self.now) (ty_val_shape (names_around self.now) value.now) }
-        requires at_proper { Fits (around_of self.now) (ty_val_shape (names_around self.now) at.now) }
+        requires proper { Fits (around_of self.now)
+            (ty_val_shape (names_around self.now) value.now) }
+        requires at_proper { Fits (around_of self.now)
+            (ty_val_shape (names_around self.now) at.now) }
         ensures { IfOk result (λ operands. map operand_shape operands.items
             ≡ typed_operand (around_of self.now) (ty_val_shape (names_around self.now) value.now)
-            ∷ typed_operand (around_of self.now) (ty_val_shape (names_around self.now) at.now) ∷ []) }
+            ∷ typed_operand (around_of self.now) (ty_val_shape (names_around self.now) at.now)
+            ∷ []) }
     {
         let first = self.typed_operand(alloc, value)?;
         let second = self.typed_operand(alloc, at)?;

@@ -34,7 +34,8 @@ fn number_of(val: &Val) -> Option<i128>
 
 /// Returns an operand as an index.
 fn index_of(x: &TyVal) -> Index
-    ensures { (names : List (List ℕ)) → index_shape result ≡ operand_index (ty_val_shape names x.now) }
+    ensures { (names : List (List ℕ)) →
+        index_shape result ≡ operand_index (ty_val_shape names x.now) }
 {
     Index {
         width: width_of(&x.ty),
@@ -96,7 +97,8 @@ impl Around<'_> {
         indices: &[TyVal],
     ) -> Result<(), AllocError>
         requires around { IsAround self.now }
-        requires names { list_all (ty_val_known (length (names_around self.now))) indices.now ≡ true }
+        requires names { list_all (ty_val_known (length (names_around self.now))) indices.now
+            ≡ true }
         requires proper { AllFit self.now indices.now }
         ensures { OnOk result (map operand_shape operands.new.items
             ≡ map operand_shape operands.old.items ++ scaled_only (map stride_shape strides.now)
@@ -122,7 +124,8 @@ impl Around<'_> {
     ) -> Result<Vec<Operand>, AllocError>
         requires around { IsAround self.now }
         requires types { ty_known (length (names_around self.now)) ty.now ≡ true }
-        requires names { list_all (ty_val_known (length (names_around self.now))) indices.now ≡ true }
+        requires names { list_all (ty_val_known (length (names_around self.now))) indices.now
+            ≡ true }
         requires base_names { ty_val_known (length (names_around self.now)) base.now ≡ true }
         requires sized { IsSized (around_of self.now).within.types
             (ty_shape (names_around self.now) ty.now) }
@@ -130,7 +133,8 @@ impl Around<'_> {
             (ty_shape (names_around self.now) ty.now)
             (map (λ x. val_number x.val) (map (ty_val_shape (names_around self.now)) indices.now)) }
         requires proper { AllFit self.now indices.now }
-        requires base_proper { Fits (around_of self.now) (ty_val_shape (names_around self.now) base.now) }
+        requires base_proper { Fits (around_of self.now)
+            (ty_val_shape (names_around self.now) base.now) }
         ensures { IfOk result (λ operands. map operand_shape operands.items
             ≡ typed_operand (around_of self.now) (ty_val_shape (names_around self.now) base.now)
             ∷ scaled_only (steps_of (around_of self.now) (ty_shape (names_around self.now) ty.now)

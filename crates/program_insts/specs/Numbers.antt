@@ -33,10 +33,11 @@ others_of a result body = if is_phi body then [] else numbered a result body ∷
 abbrev pub with_inst : Surroundings → Option ℕ → BodyShape → Block → Block
 with_inst a result body b = record { phis = b.phis ++ phi_of a result body; body = b.body ++ others_of a result body }
 
--- the number of what an instruction gives, where the next value has this number, and the number of the value after it
+-- the number of what an instruction gives, where the next value has this number
 abbrev pub number_by : ℕ → InstShape → Option ℕ
 number_by n x = if gives_value x then Some n else None
 
+-- the number of the value after it
 abbrev pub next_by : ℕ → InstShape → ℕ
 next_by n x = if gives_value x then suc n else n
 
@@ -45,19 +46,21 @@ abbrev pub after : ℕ → List InstShape → ℕ
 after n [] = n
 after n (x ∷ xs) = after (next_by n x) xs
 
--- the phis among instructions, and the others
+-- the phis among instructions
 abbrev pub phis_by : Surroundings → ℕ → List InstShape → List Phi
 phis_by a n [] = []
 phis_by a n (x ∷ xs) = phi_of a (number_by n x) x.body ++ phis_by a (next_by n x) xs
 
+-- the others among them
 abbrev pub others_by : Surroundings → ℕ → List InstShape → List Instruction
 others_by a n [] = []
 others_by a n (x ∷ xs) = others_of a (number_by n x) x.body ++ others_by a (next_by n x) xs
 
--- a block, and blocks
+-- a block
 abbrev pub block_by : Surroundings → ℕ → BlockShape → Block
 block_by a n b = record { phis = phis_by a n b.insts; body = others_by a n b.insts }
 
+-- blocks
 abbrev pub blocks_by : Surroundings → ℕ → List BlockShape → List Block
 blocks_by a n [] = []
 blocks_by a n (b ∷ bs) = block_by a n b ∷ blocks_by a (after n b.insts) bs

@@ -14,8 +14,8 @@ use program_actions::Around;
 use program_tables::Block;
 use std::alloc::{AllocError, Global};
 
-/// Returns a block, where the values that its instructions give have numbers from `next` on. Then `next` is the number of the
-/// value after them.
+/// Returns a block, where the values that its instructions give are numbered from `next` on, and moves `next` past
+/// them.
 fn block_of(
     alloc: Global,
     around: &Around,
@@ -26,7 +26,8 @@ fn block_of(
     requires names { block_known (length (names_around around.now)) source.now ≡ true }
     requires proper { IsBlockTyped (around_of around.now)
         (source_shape (names_around around.now) source.now) }
-    requires room { after next.old (source_shape (names_around around.now) source.now).insts < 2 ^ 64 }
+    requires room { after next.old (source_shape (names_around around.now) source.now).insts
+        < 2 ^ 64 }
     ensures block { IfOk result (λ block. block_shape block ≡ block_by (around_of around.now)
         next.old (source_shape (names_around around.now) source.now)) }
     ensures next { IfOk result (λ block. next.new

@@ -116,8 +116,8 @@ fn push_inst(
     }
 }
 
-/// Adds an instruction to a block, where the value that it gives has the number `next`. Then `next` is the number of the value
-/// after it.
+/// Adds an instruction to a block, where the value that it gives has the number `next`, and
+/// moves `next` past it.
 pub fn push_next(
     alloc: Global,
     around: &Around,

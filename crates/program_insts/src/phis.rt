@@ -21,7 +21,8 @@ fn input_of(alloc: Global, around: &Around, ty: &Ty, x: &PhiIn) -> Result<Input,
     requires around { IsAround around.now }
     requires types { ty_known (length (names_around around.now)) ty.now ≡ true }
     requires names { phi_in_known (length (names_around around.now)) x.now ≡ true }
-    requires proper { HasTy (around_of around.now) (phi_in_shape (names_around around.now) x.now).val
+    requires proper { HasTy (around_of around.now)
+        (phi_in_shape (names_around around.now) x.now).val
         (ty_shape (names_around around.now) ty.now) }
     ensures { IfOk result (λ input. input_shape input ≡ input_of (around_of around.now)
         (ty_shape (names_around around.now) ty.now)
