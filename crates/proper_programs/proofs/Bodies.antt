@@ -1,10 +1,9 @@
 -- What holds of each instruction of a function holds of those of its program.
-use Rattle.std.proofs.Common.{◌≡◌, ℕ, zero, suc, ◌+◌, Bool, true, false, List, [], ◌∷◌, ◌++◌, length, Option, Some, None, refl, sym, ap, subst, ◌∙◌, arith, slice_get}
+use Rattle.std.proofs.Common.{◌≡◌, ℕ, suc, ◌+◌, Bool, true, false, List, [], ◌∷◌, length, Some, refl, ap, subst, ◌∙◌, arith, slice_get}
 use Rattle.std.specs.Prelude.{if◌then◌else◌}
 use Rattle.std.specs.Option.{option_and_then}
 use Rattle.std.specs.List.{AllByRecursion}
-use Rattle.std.proofs.lemmas.Option.{none-some}
-use Rattle.ir_tree.specs.Shape.{BodyShape, InstShape, BlockShape, FunctionShape}
+use Rattle.ir_tree.specs.Shape.{InstShape, BlockShape, FunctionShape}
 use Rattle.ir_rules.specs.Values.{inst_at}
 use Rattle.ir_rules.specs.Instructions.{Around}
 use Rattle.ir_forms.specs.Instructions.{is_phi}

@@ -1,27 +1,22 @@
 -- What a call names, and the kinds of what it takes and gives.
-use Rattle.std.proofs.Common.{◌≡◌, ◌≤◌, ◌<◌, ℕ, zero, suc, ◌+◌, Bool, true, false, List, [], ◌∷◌, ◌++◌, map, length, Option, Some, None, refl, sym, ap, subst, ◌∙◌, arith, slice_get, slice_index_or}
+use Rattle.std.proofs.Common.{◌≡◌, ℕ, suc, ◌+◌, Bool, true, false, List, [], ◌∷◌, ◌++◌, map, length, Option, Some, None, refl, sym, ap, subst, ◌∙◌, arith, slice_get}
 use Rattle.std.specs.Prelude.{if◌then◌else◌, take, codes, ◌||◌}
 use Rattle.std.specs.Option.{option_map, option_map_or}
-use Rattle.std.specs.List.{AllByRecursion, AllZip}
 use Rattle.std.specs.Str.{bytes_eq}
-use Rattle.std.proofs.lemmas.Option.{same_Some, none-some, slice_get_within}
+use Rattle.std.proofs.lemmas.Option.{same_Some, none-some}
 use Rattle.std.proofs.lemmas.Slice.Eq.{bytes_eq-Decides}
-use Rattle.ir_tree.specs.Shape.{TyShape, integer, pointer, void, array, structure, named, ConstShape, global, TyValShape, ParamShape, FunctionShape, DeclareShape, ModuleShape}
-use Rattle.ir_rules.specs.declared.Callee.{Callee}
+use Rattle.ir_tree.specs.Shape.{TyShape, integer, pointer, void, array, structure, named, TyValShape, ParamShape, FunctionShape, DeclareShape, ModuleShape}
 use Rattle.ir_rules.specs.declared.Callee.TheVariants.{Defined, Declared}
 use Rattle.ir_rules.specs.declared.Site.TheVariants.{Param}
-use Rattle.ir_rules.specs.Constants.{IsScalar}
-use Rattle.ir_rules.specs.Values.{ValueShape, params_from, all_results_from, values, site_ty}
-use Rattle.ir_rules.specs.Things.{function_of, declare_of, is_outside_name, outside_of, defined_or, callee_of, Signature, signature_of}
-use Rattle.ir_rules.specs.Places.{function_at, declare_at}
-use Rattle.ir_rules.specs.TypeRules.{IsReturned, HasTypes, HasOutsideTypes}
+use Rattle.ir_rules.specs.Values.{ValueShape, params_from, all_results_from, values}
+use Rattle.ir_rules.specs.Things.{function_of, declare_of, is_outside_name, defined_or, callee_of, Signature, signature_of}
+use Rattle.ir_rules.specs.TypeRules.{IsReturned}
 use Rattle.ir_model.specs.Programs.{PutChar, GetChar}
 use Rattle.ir_program.specs.Operands.{outside_call}
-use Rattle.ir_typed_runs.specs.Kinds.{Kind, OfWidth, OfPointer, HasWidth}
+use Rattle.ir_typed_runs.specs.Kinds.{Kind, OfPointer}
 use Rattle.ir_typed_runs.specs.TypedPrograms.{GivesKind, GivesReturned}
 use Rattle.proper_programs.specs.ModuleKinds.{kind_of_ty, returned_kind, site_kind, function_kinds}
 use Rattle.proper_programs.proofs.Positions.{IsFoundAt, found_at}
-use Rattle.proper_programs.proofs.ValueKinds.{scalar_width}
 
 -- names that are told to be the same are the same
 pub names_same : (x y : List ℕ) → bytes_eq x y ≡ true → x ≡ y

@@ -1,10 +1,10 @@
 -- Constants are values of the kinds of their types, and no byte of a global holds a part of an address of something that isn't there.
-use Rattle.std.proofs.Common.{◌≡◌, ◌≤◌, ◌<◌, ℕ, zero, suc, ◌+◌, ◌-◌, Bool, true, false, List, [], ◌∷◌, ◌++◌, map, length, Option, Some, None, refl, sym, ap, subst, ◌∙◌, arith, slice_get, replicate}
+use Rattle.std.proofs.Common.{◌≡◌, ◌≤◌, ◌<◌, ℕ, zero, suc, ◌+◌, ◌-◌, Bool, true, false, List, [], ◌∷◌, ◌++◌, map, length, Option, Some, None, refl, sym, subst, arith, replicate}
 use Rattle.std.specs.Prelude.{⊤, if◌then◌else◌}
-use Rattle.std.specs.List.{position_from, AllByRecursion}
+use Rattle.std.specs.List.{AllByRecursion}
 use Rattle.std.specs.Int.{bytes_low_first}
 use Rattle.std.specs.Str.{bytes_eq}
-use Rattle.std.proofs.lemmas.Option.{same_Some, none-some, slice_get_within}
+use Rattle.std.proofs.lemmas.Option.{slice_get_within}
 use Rattle.std.proofs.lemmas.Nat.{pow_pos}
 use Rattle.ir_tree.specs.Shape.{TyShape, TyShapes, integer, pointer, void, array, structure, named, no_types, types, ConstShape, number, boolean, null, undef, poison, zero_value, text, elements, fields, global, address, TypedShape, typed, TypedShapes, no_values, values, GlobalShape, ModuleShape}
 use Rattle.ir_rules.specs.Constants.{HasConst, HaveElements, HaveFields, HasTyped, HasBase}
@@ -13,12 +13,12 @@ use Rattle.ir_model.specs.declared.Access.{Access}
 use Rattle.ir_model.specs.Values.{Value, Integer, Address, Poison, Pointer, Cell, Unknown, Byte, Part, is_null}
 use Rattle.ir_model.specs.Memory.{access_size, parts_from, cells_of}
 use Rattle.ir_typed_runs.specs.Kinds.{Kind, OfWidth, OfPointer, IsPointer, IsOfKind, IsCell}
-use Rattle.ir_typed_runs.proofs.Lists.{if_holds, all_joined, all_replicated, all_mapped}
+use Rattle.ir_typed_runs.proofs.Lists.{all_joined, all_replicated, all_mapped}
 use Rattle.ir_typed_runs.proofs.Numbers.{bits_below}
 use Rattle.ir_typed_runs.proofs.Computed.{walked_kind}
 use Rattle.ir_program.specs.Strides.{strides_of, scaled_only}
 use Rattle.ir_program.specs.Sizes.{ty_size}
-use Rattle.ir_program.specs.Constants.{global_address, zero_of, rooms, row_indices, const_value, typed_value, row_values, access_of, value_cells, padded, gap_before, end_of, const_cells, typed_cells, elements_cells, fields_cells}
+use Rattle.ir_program.specs.Constants.{global_address, zero_of, rooms, row_indices, const_value, typed_value, row_values, access_of, value_cells, gap_before, end_of, const_cells, typed_cells, elements_cells, fields_cells}
 use Rattle.ir_program.specs.Bytes.{HasByte}
 use Rattle.proper_programs.specs.ModuleKinds.{kind_of_ty}
 use Rattle.proper_programs.proofs.Positions.{found_at, all_of}

@@ -1,24 +1,18 @@
 -- The instructions of a proper module's program have operands of the kinds that they need.
-use Rattle.std.proofs.Common.{◌≡◌, ◌≤◌, ◌<◌, ℕ, zero, suc, ◌+◌, ◌^◌, inl, inr, Bool, true, false, List, [], ◌∷◌, ◌++◌, map, length, Option, Some, None, refl, sym, ap, subst, ◌∙◌, arith, slice_get, slice_index_or}
-use Rattle.std.specs.Prelude.{⊤, ◌⊎◌, if◌then◌else◌, take, codes}
-use Rattle.std.specs.Option.{option_map, option_map_or}
+use Rattle.std.proofs.Common.{◌≡◌, ◌<◌, ℕ, ◌^◌, inl, inr, List, [], ◌∷◌, map, Option, refl, sym, subst}
 use Rattle.std.specs.List.{AllByRecursion, AllZip}
-use Rattle.std.specs.Str.{bytes_eq}
-use Rattle.std.proofs.lemmas.Option.{same_Some, none-some}
-use Rattle.std.proofs.lemmas.List.{length-map}
-use Rattle.ir_tree.specs.Shape.{TyShape, integer, pointer, void, array, structure, named, ConstShape, global, ValShape, local, fixed, TyValShape, PhiInShape, CaseShape, BodyShape, phi, binary, icmp, select, convert, freeze, alloca, load, store, get_element, call, jump, branch, switch, return_void, return_value, unreachable, InstShape, ParamShape, FunctionShape, NamedTyShape, ModuleShape}
+use Rattle.ir_tree.specs.Shape.{TyShape, integer, pointer, void, array, structure, named, ValShape, local, fixed, TyValShape, PhiInShape, CaseShape, NamedTyShape}
 use Rattle.ir_tree.specs.declared.module.Conv.{Conv}
 use Rattle.ir_tree.specs.declared.module.Conv.TheVariants.{Zext, Sext, Trunc}
-use Rattle.ir_rules.specs.Constants.{IsInteger, IsScalar}
-use Rattle.ir_rules.specs.Values.{value_of}
+use Rattle.ir_rules.specs.Constants.{IsInteger}
 use Rattle.ir_rules.specs.Instructions.{Around, HasTy, Fits, FitsAs, IsStorable, Changes, IsStep}
 use Rattle.ir_model.specs.Pointers.{Stride, Scaled, Field}
-use Rattle.ir_model.specs.Programs.{Operand, Local, Fixed, Case, Program}
+use Rattle.ir_model.specs.Programs.{Operand, Case, Program}
 use Rattle.ir_program.specs.Strides.{width_of, stride_into, type_inside, strides_inside, strides_of, scaled_only}
 use Rattle.ir_program.specs.Sizes.{opened, ty_size}
 use Rattle.ir_program.specs.Constants.{const_value, access_of}
 use Rattle.ir_program.specs.Operands.{local_or_poison, operand_of, typed_operand, operand_index, program_case}
-use Rattle.ir_typed_runs.specs.Kinds.{Kind, OfWidth, OfPointer, HasWidth, IsOfKind, kind_of, Converts, index_kinds}
+use Rattle.ir_typed_runs.specs.Kinds.{Kind, OfWidth, HasWidth, IsOfKind, kind_of, Converts, index_kinds}
 use Rattle.ir_typed_runs.specs.TypedPrograms.{first_blocks, IsOperand}
 use Rattle.ir_typed_runs.proofs.Numbers.{bits_below}
 use Rattle.proper_programs.specs.ModuleKinds.{kind_of_ty, function_kinds}

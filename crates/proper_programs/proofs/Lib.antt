@@ -5,5 +5,7 @@ mod InstructionKinds
 mod CalledKinds
 mod TypedBodies
 mod Bodies
-mod TypedModules
-mod WholeModules
+pub mod TypedModules
+pub mod WholeModules
+mod Results
+mod NeverCalled

@@ -1,10 +1,10 @@
 -- Each instruction of a proper module's program is typed.
-use Rattle.std.proofs.Common.{◌≡◌, ◌≤◌, ◌<◌, ℕ, zero, suc, ◌+◌, ◌^◌, inl, inr, Bool, true, false, List, [], ◌∷◌, ◌++◌, map, length, Option, Some, None, refl, sym, ap, subst, ◌∙◌, arith, slice_get, slice_index_or}
+use Rattle.std.proofs.Common.{◌≡◌, ℕ, zero, suc, List, [], ◌∷◌, map, Option, Some, None, refl, sym, ap, subst, ◌∙◌, arith, slice_get, slice_index_or}
 use Rattle.std.specs.Prelude.{take}
 use Rattle.std.specs.List.{AllByRecursion, AllZip}
 use Rattle.std.proofs.lemmas.Option.{same_Some, none-some}
 use Rattle.std.proofs.lemmas.List.{length-map}
-use Rattle.ir_tree.specs.Shape.{TyShape, integer, pointer, void, array, structure, named, ConstShape, global, ValShape, local, fixed, TyValShape, PhiInShape, BodyShape, phi, binary, icmp, select, convert, freeze, alloca, load, store, get_element, call, jump, branch, switch, return_void, return_value, unreachable, ParamShape, FunctionShape, DeclareShape, ModuleShape}
+use Rattle.ir_tree.specs.Shape.{TyShape, integer, pointer, void, array, structure, named, ConstShape, global, ValShape, local, fixed, TyValShape, BodyShape, phi, binary, icmp, select, convert, freeze, alloca, load, store, get_element, call, jump, branch, switch, return_void, return_value, unreachable, ParamShape, FunctionShape, ModuleShape}
 use Rattle.ir_rules.specs.declared.Callee.{Callee}
 use Rattle.ir_rules.specs.declared.Callee.TheVariants.{Defined, Declared}
 use Rattle.ir_rules.specs.Constants.{IsScalar}
@@ -13,20 +13,19 @@ use Rattle.ir_rules.specs.Things.{callee_of, Signature, signature_of}
 use Rattle.ir_rules.specs.Instructions.{Around, HasTy, Fits, IsWellTyped}
 use Rattle.ir_rules.specs.Places.{function_at as function_place, declare_at}
 use Rattle.ir_rules.specs.TypeRules.{HasTypes}
-use Rattle.ir_model.specs.Pointers.{Stride}
-use Rattle.ir_model.specs.Programs.{Operand, Action, Call, PutChar, GetChar, Input, Phi, Function, Program, no_function, function_at}
+use Rattle.ir_model.specs.Programs.{Operand, Action, Call, Function, no_function, function_at}
 use Rattle.ir_program.specs.Constants.{access_of}
 use Rattle.ir_program.specs.Operands.{operand_of, operands_of, typed_operand, action_of, called, call_of, outside_call, steps_of}
 use Rattle.ir_program.specs.Strides.{width_of}
-use Rattle.ir_program.specs.ProgramOf.{input_of, phi_of, program_function, program_of}
+use Rattle.ir_program.specs.ProgramOf.{program_function, program_of}
 use Rattle.ir_typed_runs.specs.Kinds.{Kind, OfWidth, OfPointer, HasWidth, kind_of, Converts, index_kinds}
-use Rattle.ir_typed_runs.specs.TypedPrograms.{FunctionKinds, no_kinds, kinds_in, first_blocks, GivesKind, GivesReturned, IsOperand, IsTypedInstruction, IsTypedPhi}
+use Rattle.ir_typed_runs.specs.TypedPrograms.{FunctionKinds, no_kinds, kinds_in, first_blocks, GivesKind, GivesReturned, IsOperand, IsTypedInstruction}
 use Rattle.ir_typed_runs.proofs.Lists.{all_mapped}
 use Rattle.proper_programs.specs.ModuleKinds.{kind_of_ty, returned_kind, function_kinds, module_kinds}
 use Rattle.proper_programs.proofs.ValueKinds.{scalar_width, integer_width, storable_scalar}
 use Rattle.proper_programs.proofs.ConstantKinds.{block_count}
-use Rattle.proper_programs.proofs.InstructionKinds.{integer_kind, storable_kind, changes_convert, operand_kind, stated_kind, fits_kind, all_stated, all_inputs, TakeSteps, steps_taken, cases_below}
-use Rattle.proper_programs.proofs.CalledKinds.{IsDefined, defined_is, first_kinds, kinds_of_types, kinds_of_arguments, gives_returned, IsOutside, outside_is, IsCalledOutside, puts, gets, called_outside}
+use Rattle.proper_programs.proofs.InstructionKinds.{integer_kind, storable_kind, changes_convert, operand_kind, stated_kind, fits_kind, all_stated, steps_taken, cases_below}
+use Rattle.proper_programs.proofs.CalledKinds.{defined_is, first_kinds, kinds_of_types, kinds_of_arguments, gives_returned, IsOutside, outside_is, IsCalledOutside, puts, gets, called_outside}
 
 -- ---- functions of a module by number
 pub index_mapped : {A B : Type 0} (g : A → B) (xs : List A) (k : ℕ) (x : A) (d : B) → slice_get xs k ≡ Some x → slice_index_or (map g xs) k d ≡ g x

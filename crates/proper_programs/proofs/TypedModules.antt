@@ -1,27 +1,26 @@
 -- The program of a proper module is typed.
-use Rattle.std.proofs.Common.{◌≡◌, ◌<◌, ◌==◌, ℕ, zero, suc, ◌+◌, inl, inr, Bool, true, false, List, [], ◌∷◌, ◌++◌, map, length, Option, Some, None, refl, sym, ap, subst, ◌∙◌, arith, slice_get}
+use Rattle.std.proofs.Common.{◌≡◌, ℕ, suc, ◌+◌, inl, inr, true, List, [], ◌∷◌, map, length, Option, Some, None, refl, sym, ap, subst, ◌∙◌, arith, slice_get}
 use Rattle.std.specs.Prelude.{codes, unwrap_or}
 use Rattle.std.specs.Option.{option_map}
 use Rattle.std.specs.List.{AllByRecursion}
 use Rattle.std.specs.Str.{bytes_eq}
 use Rattle.std.proofs.lemmas.Bool.Decides.{eqb_tells}
-use Rattle.std.proofs.lemmas.Option.{same_Some, none-some}
+use Rattle.std.proofs.lemmas.Option.{none-some}
 use Rattle.std.proofs.lemmas.List.{length-map}
 use Rattle.std.proofs.lemmas.Slice.Eq.{bytes_eq-Decides}
-use Rattle.ir_tree.specs.Shape.{TyShape, integer, BodyShape, phi, binary, icmp, select, convert, freeze, alloca, load, store, get_element, call, jump, branch, switch, return_void, return_value, unreachable, InstShape, BlockShape, FunctionShape, GlobalShape, ModuleShape}
+use Rattle.ir_tree.specs.Shape.{BodyShape, phi, binary, icmp, select, convert, freeze, alloca, load, store, get_element, call, jump, branch, switch, return_void, return_value, unreachable, InstShape, BlockShape, FunctionShape, GlobalShape, ModuleShape}
 use Rattle.ir_rules.specs.Values.{ValueShape, result_ty, values, inst_at}
 use Rattle.ir_rules.specs.Things.{function_of}
-use Rattle.ir_rules.specs.Places.{Place, global_at, function_at as function_place, inst_at_place}
-use Rattle.ir_rules.specs.NameRules.{HasNames, two_symbols}
+use Rattle.ir_rules.specs.Places.{global_at, function_at as function_place, inst_at_place}
+use Rattle.ir_rules.specs.NameRules.{two_symbols}
 use Rattle.ir_rules.specs.Instructions.{Around, IsWellTyped}
 use Rattle.ir_rules.specs.TypeRules.{IsProperGlobal, HasTypes}
-use Rattle.ir_proper.specs.Proper.{HasMain, IsProper}
-use Rattle.ir_model.specs.Values.{Cell}
-use Rattle.ir_model.specs.Programs.{Input, Function, function_at}
+use Rattle.ir_proper.specs.Proper.{IsMain, IsProper}
+use Rattle.ir_model.specs.Programs.{Input}
 use Rattle.ir_program.specs.Constants.{global_cells}
 use Rattle.ir_program.specs.Operands.{result_number}
 use Rattle.ir_program.specs.ProgramOf.{input_of, phi_of, phis_from, body_from, program_function, program_of}
-use Rattle.ir_typed_runs.specs.Kinds.{Kind, OfWidth, HasWidth, IsCell}
+use Rattle.ir_typed_runs.specs.Kinds.{HasWidth, IsCell}
 use Rattle.ir_typed_runs.specs.TypedPrograms.{FunctionKinds, kinds_in, first_blocks, GivesKind, IsOperand, IsTypedInstruction, IsTypedPhi, IsTypedBlock, IsTyped}
 use Rattle.ir_typed_runs.proofs.Lists.{all_joined, all_mapped}
 use Rattle.ir_program.specs.Bytes.{HasByte, HaveBytes}
@@ -117,7 +116,7 @@ pub record BeginsWith (m : ModuleShape) : Type 0 where
   pub function : FunctionShape
   pub there : slice_get m.functions number ≡ Some function
   pub main : (program_of m).main ≡ number
-  pub status : function.ret ≡ integer 32
+  pub is_main : IsMain function
 
 main_number : (m : ModuleShape) (k : ℕ) → function_of m (codes "main") ≡ Some k → (program_of m).main ≡ k
 unfolding program_of
@@ -139,7 +138,7 @@ begins_with m proper =
     let first : slice_get m.functions number.0 ≡ Some found.element = subst (λ (n : ℕ). slice_get m.functions n ≡ Some found.element) place found.there in
     let named : found.element.name ≡ codes "main" = (bytes_eq-Decides found.element.name (codes "main")).0 found.passes in
     let once : number.0 ≡ k = one_main number.0 k found.element f first there named called in
-    record { number = k; function = f; there = there; main = main_number m number.0 number.1 ∙ once; status = proper.main.3.gives_status }
+    record { number = k; function = f; there = there; main = main_number m number.0 number.1 ∙ once; is_main = proper.main.3 }
   where
     one_main : (j k : ℕ) (g f : FunctionShape) → slice_get m.functions j ≡ Some g → slice_get m.functions k ≡ Some f → g.name ≡ codes "main"
         → f.name ≡ codes "main" → j ≡ k
@@ -165,5 +164,5 @@ typed m proper bytes =
       globals = globals_typed m proper.types bytes;
       main = ap (λ (n : ℕ). (kinds_in (module_kinds m) n).result) begins.main
           ∙ ap (λ (K : FunctionKinds). K.result) (kinds_are m begins.number begins.function begins.there)
-          ∙ ap returned_kind begins.status;
+          ∙ ap returned_kind begins.is_main.gives_status;
     }

@@ -1,11 +1,11 @@
 -- The kinds of a function's values.
-use Rattle.std.proofs.Common.{◌≡◌, ◌≤◌, ℕ, zero, suc, ◌+◌, ◌==◌, ◌&&◌, inl, inr, Bool, true, false, List, [], ◌∷◌, map, Option, Some, None, refl, sym, ap, subst, ◌∙◌, arith, slice_get}
-use Rattle.std.specs.Prelude.{◌⊎◌, if◌then◌else◌, is_some, not, ◌||◌}
+use Rattle.std.proofs.Common.{◌≡◌, ℕ, ◌+◌, inl, inr, Bool, true, false, List, map, Option, Some, None, refl, sym, ap, subst, ◌∙◌, arith, slice_get}
+use Rattle.std.specs.Prelude.{if◌then◌else◌, is_some, not, ◌||◌}
 use Rattle.std.specs.Option.{option_map, option_and_then, option_map_or}
-use Rattle.std.specs.List.{position_from, AllByRecursion}
+use Rattle.std.specs.List.{position_from}
 use Rattle.std.proofs.lemmas.Bool.Decides.{nat_tests}
 use Rattle.std.proofs.lemmas.Option.{same_Some, none-some, slice_get-map}
-use Rattle.ir_tree.specs.Shape.{TyShape, integer, pointer, void, array, structure, named, ValShape, local, fixed, BodyShape, phi, binary, icmp, select, convert, freeze, alloca, load, store, get_element, call, jump, branch, switch, return_void, return_value, unreachable, InstShape, ParamShape, FunctionShape, DeclareShape, ModuleShape}
+use Rattle.ir_tree.specs.Shape.{TyShape, integer, pointer, void, array, structure, named, local, fixed, BodyShape, phi, binary, icmp, select, convert, freeze, alloca, load, store, get_element, call, jump, branch, switch, return_void, return_value, unreachable, InstShape, ParamShape, FunctionShape, DeclareShape, ModuleShape}
 use Rattle.ir_rules.specs.declared.Site.{Site}
 use Rattle.ir_rules.specs.declared.Site.TheVariants.{Param, Inst}
 use Rattle.ir_rules.specs.declared.Callee.{Callee}
@@ -15,12 +15,12 @@ use Rattle.ir_rules.specs.Constants.{IsInteger, IsScalar}
 use Rattle.ir_rules.specs.Things.{Signature, signature_of}
 use Rattle.ir_rules.specs.Instructions.{Around, IsStorable, IsWellTyped}
 use Rattle.ir_rules.specs.Places.{function_at, declare_at, inst_at_place}
-use Rattle.ir_rules.specs.TypeRules.{IsReturned, IsProperDeclare, IsProperHead, IsProperInst, HasTypes}
+use Rattle.ir_rules.specs.TypeRules.{IsReturned, IsProperInst, HasTypes}
 use Rattle.ir_program.specs.Operands.{is_given_at, result_number}
-use Rattle.ir_typed_runs.specs.Kinds.{Kind, OfWidth, OfPointer, HasWidth}
+use Rattle.ir_typed_runs.specs.Kinds.{Kind, OfPointer, HasWidth}
 use Rattle.ir_typed_runs.specs.TypedPrograms.{HasKind, GivesKind}
 use Rattle.ir_typed_runs.proofs.Lists.{all_get}
-use Rattle.proper_programs.specs.ModuleKinds.{kind_of_ty, returned_kind, site_kind, function_kinds}
+use Rattle.proper_programs.specs.ModuleKinds.{kind_of_ty, site_kind, function_kinds}
 use Rattle.proper_programs.proofs.Positions.{found_at}
 
 -- ---- widths

@@ -5,7 +5,7 @@ use Rattle.std.specs.List.{AllByRecursion}
 use Rattle.std.specs.Str.{bytes_eq}
 use Rattle.std.proofs.lemmas.Option.{none-some, slice_get_within}
 use Rattle.std.proofs.lemmas.List.{length-map}
-use Rattle.ir_tree.specs.Shape.{ConstShape, global, ValShape, local, fixed, CaseShape, BodyShape, phi, binary, icmp, select, convert, freeze, alloca, load, store, get_element, call, jump, branch, switch, return_void, return_value, unreachable, InstShape, BlockShape, FunctionShape, ModuleShape}
+use Rattle.ir_tree.specs.Shape.{ConstShape, global, local, fixed, CaseShape, BodyShape, phi, binary, icmp, select, convert, freeze, alloca, load, store, get_element, call, jump, branch, switch, return_void, return_value, unreachable, InstShape, BlockShape, FunctionShape, ModuleShape}
 use Rattle.ir_rules.specs.declared.Callee.{Callee}
 use Rattle.ir_rules.specs.declared.Callee.TheVariants.{Defined, Declared}
 use Rattle.ir_rules.specs.Values.{block_of, inst_at}
@@ -16,12 +16,11 @@ use Rattle.ir_rules.specs.TypeRules.{HasTypes}
 use Rattle.ir_proper.specs.Proper.{IsProper}
 use Rattle.ir_forms.specs.Instructions.{is_phi, is_terminator as ends_block}
 use Rattle.ir_forms.specs.Modules.{IsInner, HasBlockForm, HasFunctionForm, HasForm}
-use Rattle.ir_model.specs.Programs.{Case, Action, PutChar, GetChar, Instruction, Function, Block, Program, function_at}
+use Rattle.ir_model.specs.Programs.{Case, PutChar, GetChar, Instruction, Function, function_at}
 use Rattle.ir_program.specs.Strides.{width_of}
 use Rattle.ir_program.specs.Operands.{block_number, program_case, action_of, called, call_of}
-use Rattle.ir_program.specs.ProgramOf.{phis_from, instruction_of, body_from, blocks_from, program_function, program_of}
+use Rattle.ir_program.specs.ProgramOf.{phis_from, instruction_of, body_from, program_function, program_of}
 use Rattle.ir_placed_runs.specs.Places.{is_terminator, IsBody, Names, IsWholeBlock, IsWhole}
-use Rattle.ir_typed_runs.specs.TypedPrograms.{FunctionKinds}
 use Rattle.ir_typed_runs.proofs.Lists.{all_get}
 use Rattle.proper_programs.proofs.Positions.{found_at}
 use Rattle.proper_programs.proofs.CalledKinds.{defined_is}
@@ -34,7 +33,7 @@ longer_body : (x : Instruction) (rest : List Instruction) → is_terminator x.ac
 longer_body x [] inner is = absurd is
 longer_body x (y ∷ ys) inner is = (inner, is)
 
-terminator_no_phi : (body : BodyShape) → ends_block body ≡ true → is_phi body ≡ false
+pub terminator_no_phi : (body : BodyShape) → ends_block body ≡ true → is_phi body ≡ false
 terminator_no_phi (phi t inputs) is = cc
 terminator_no_phi (binary operation flags t left right) is = refl
 terminator_no_phi (icmp predicate t left right) is = refl

@@ -1,1 +1,3 @@
 pub mod ModuleKinds
+pub mod Results
+pub mod NeverCalled

@@ -1,5 +1,5 @@
 -- The kinds of the values of a module's program, by the types that the module states.
-use Rattle.std.specs.Prelude.{ℕ, List, map, Option, Some, None}
+use Rattle.std.specs.Prelude.{List, map, Option, Some, None}
 use Rattle.std.specs.Option.{option_map_or}
 use Rattle.ir_tree.specs.Shape.{TyShape, integer, pointer, void, array, structure, named, FunctionShape, ModuleShape}
 use Rattle.ir_rules.specs.declared.Site.{Site}
