@@ -103,10 +103,10 @@ int main(void) {
 }
 
 
-def tools():
-    """The newest version from 16 on that has all tools, and their paths; or none."""
+def tools(names):
+    """The newest version from 16 on that has all these tools, and their paths; or none."""
     for version in range(30, 15, -1):
-        paths = [shutil.which(f"{name}-{version}") for name in TOOLS]
+        paths = [shutil.which(f"{name}-{version}") for name in names]
         if all(paths):
             return version, *paths
     return None
@@ -155,7 +155,7 @@ def compare(found, folder, source, level, where):
 
 
 def main():
-    if not (found := tools()):
+    if not (found := tools(TOOLS)):
         print(f"skipped: {', '.join(TOOLS)} of one version from 16 on are wanted")
         return
     with tempfile.TemporaryDirectory() as name:

@@ -10,13 +10,12 @@ native one ends. Where a tool is missing the comparison is skipped.
 
 import random
 import re
-import shutil
 import subprocess
 import sys
 import tempfile
 from pathlib import Path
 
-from compare_with_llvm import FLAGS, PROGRAMS, TOP
+from compare_with_llvm import FLAGS, PROGRAMS, TOP, tools
 
 TOOLS = ["clang", "opt"]
 LEVELS = {
@@ -81,15 +80,6 @@ int main(void) {
 }
 
 
-def tools():
-    """The newest version from 16 on that has all tools, and their paths; or none."""
-    for version in range(30, 15, -1):
-        paths = [shutil.which(f"{name}-{version}") for name in TOOLS]
-        if all(paths):
-            return version, *paths
-    return None
-
-
 def inputs():
     """Inputs from none to some thousand bytes."""
     chance = random.Random(1)
@@ -124,7 +114,7 @@ def compare(natively, text, given, where):
 
 
 def main():
-    if not (found := tools()):
+    if not (found := tools(TOOLS)):
         print(f"skipped: {', '.join(TOOLS)} of one version from 16 on are wanted")
         return
     version, clang, opt = found
